@@ -1,0 +1,26 @@
+-- What each named operation makes of a record.
+use mathlib.Core.Bool.{false}
+use Rattle.interrupt.specs.declared.interrupt.InterruptRecord.{InterruptRecord}
+use Rattle.interrupt.specs.declared.operation.Operation.{Operation}
+use Rattle.interrupt.specs.declared.operation.Operation.the-variants.{SetEnabled, SetPending, SetActive, SetState, ClearDeliveryState, MarkInflight, SynchronizeInflight, CancelInflight, FinishInflight, DeactivateInflight, SetPriority, SetTrigger, SetRoute, ClearRoute, SetCpuTargetMask, SetLevel, Pulse, Complete}
+use Rattle.interrupt.specs.Life.{enabledTo, pendingTo, activeTo, stateTo, cleared, taken, synchronized, cancelled, deactivated, priorityTo, triggerTo, routeTo, unrouted, maskTo, levelTo, pulsed, completed}
+
+abbrev pub applied : Operation → InterruptRecord → InterruptRecord
+applied (SetEnabled on) r = enabledTo on r
+applied (SetPending on) r = pendingTo on r
+applied (SetActive on) r = activeTo on r
+applied (SetState s) r = stateTo s r
+applied ClearDeliveryState r = cleared r
+applied MarkInflight r = taken r
+applied (SynchronizeInflight s) r = synchronized s r
+applied CancelInflight r = cancelled r
+applied FinishInflight r = deactivated false r
+applied (DeactivateInflight p) r = deactivated p r
+applied (SetPriority p) r = priorityTo p r
+applied (SetTrigger t) r = triggerTo t r
+applied (SetRoute a) r = routeTo a r
+applied ClearRoute r = unrouted r
+applied (SetCpuTargetMask m) r = maskTo m r
+applied (SetLevel high) r = levelTo high r
+applied Pulse r = pulsed r
+applied Complete r = completed r
