@@ -3,3 +3,7 @@ pub mod Affinity
 pub mod State
 pub mod Life
 pub mod Operation
+pub mod AnswerLaws
+pub mod AffinityLaws
+pub mod Laws
+pub mod Tidy

@@ -129,9 +129,9 @@ maskIn r = cond (r .masked) (TargetMask.Cores (r .«cpu_target_mask»)) TargetMa
 unfoldable pub raised : InterruptRecord → InterruptRecord
 raised r = lineAs true (redeliveryAs (redelivery r || (r .inflight && r .active && not (line r))) (pendingAs true r))
 
--- a level line that is low while the interrupt is not active takes back what it asked for
+-- a level line that is low takes back what it asked for, unless the interrupt is active
 unfoldable pub lowered : InterruptRecord → InterruptRecord
-lowered r = lineAs false (cond (levelOf (r .trigger) && not (r .active)) (pendingTo false r) r)
+lowered r = let stays = r .active || not (levelOf (r .trigger)) in flags (r .enabled) (r .pending && stays) (r .active) (r .inflight) (redelivery r && stays) false r
 
 unfoldable pub levelTo : Bool → InterruptRecord → InterruptRecord
 levelTo high r = cond high (raised r) (lowered r)

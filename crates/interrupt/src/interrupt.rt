@@ -291,9 +291,9 @@ impl InterruptRecord {
     {
         let trigger = self.trigger;
         let rising = asserted & !self.line_asserted;
-        let dropped = !asserted & trigger.is_level() & !self.active;
-        self.pending = asserted | self.pending & !dropped;
-        self.redelivery_pending = self.redelivery_pending & !dropped
+        let stays = asserted | self.active | !trigger.is_level();
+        self.pending = asserted | self.pending & stays;
+        self.redelivery_pending = self.redelivery_pending & stays
             | self.inflight & self.active & rising;
         self.line_asserted = asserted;
         self
