@@ -1,0 +1,205 @@
+-- One rule for every bank of registers. A bank is a row for each of: the bits of a field, what it shows of an SPI, what a written
+-- field does, whether a write lists candidates, what is refused beyond the table.
+use Prim.Native.Nat.{ℕ, zero, suc, _+_, _-_, _*_, _/_, _%_, _^_, min}
+use mathlib.Core.Bool.{Bool, true, false, not, _&&_, _||_, cond}
+use mathlib.Core.List.{List, [], _∷_}
+use mir.Val.{boolByte}
+use lib.Dec.{leb, ltb, eqb}
+use lib.ListN.{getD}
+use Rattle.theory.specs.Places.{passing}
+use Rattle.interrupt.specs.Answer.{within}
+use Rattle.interrupt.specs.Affinity.{affinity, fromMpidr, mpidrOf}
+use Rattle.interrupt.specs.State.{levelOf}
+use Rattle.interrupt.specs.Life.{routeIn, deliverableIn}
+use Rattle.interrupt.specs.Operation.{applied}
+use Rattle.interrupt.specs.declared.types.IntId.{IntId}
+use Rattle.interrupt.specs.declared.types.TriggerMode.{TriggerMode}
+use Rattle.interrupt.specs.declared.interrupt.InterruptRecord.{InterruptRecord}
+use Rattle.interrupt.specs.declared.interrupt.Route.{Route}
+use Rattle.interrupt.specs.declared.operation.Operation.{Operation}
+use Rattle.interrupt.specs.declared.operation.Operation.the-variants.{SetEnabled, SetPending, SetActive, Complete, SetPriority, SetTrigger, SetRoute}
+use Rattle.distributor.specs.declared.controller.ControllerConfig.{ControllerConfig}
+use Rattle.distributor.specs.declared.controller.GicV3SpiOwnership.{GicV3SpiOwnership}
+use Rattle.distributor.specs.declared.controller.GicV3SpiOwnership.the-variants.{AllGuestOwned, Explicit}
+use Rattle.distributor.specs.declared.distributor.Slot.{Slot}
+use Rattle.distributor.specs.declared.register.Bank.{Bank}
+use Rattle.distributor.specs.declared.register.Bank.the-variants.{Igroupr, Isenabler, Icenabler, Ispendr, Icpendr, Isactiver, Icactiver, Ipriorityr, Icfgr, Irouter}
+
+-- ---- ownership and the table
+
+abbrev pub explicit : GicV3SpiOwnership → Bool
+explicit AllGuestOwned = false
+explicit Explicit = true
+
+-- with all guest-owned every SPI counts as owned; otherwise the claim decides
+abbrev pub owned : ControllerConfig → Slot → Bool
+owned c s = not (explicit (c .«spi_ownership»)) || s .«explicitly_owned»
+
+-- a table of n records has INTIDs 32 to 31 + n
+abbrev pub inTable : ℕ → ℕ → Bool
+inTable n i = within 32 (32 + n) i
+
+-- an SPI that could be and is not there. With explicit claims the guest is refused over it, by the base's rule
+abbrev pub beyondTable : ControllerConfig → ℕ → ℕ → Bool
+beyondTable c n i = explicit (c .«spi_ownership») && within (32 + n) 1020 i
+
+-- ---- the banks, row by row
+
+abbrev pub bit : Bool → ℕ
+bit b = boolByte b
+
+-- the bits of a field
+abbrev pub bitsOf : Bank → ℕ
+bitsOf Igroupr = 1
+bitsOf Isenabler = 1
+bitsOf Icenabler = 1
+bitsOf Ispendr = 1
+bitsOf Icpendr = 1
+bitsOf Isactiver = 1
+bitsOf Icactiver = 1
+bitsOf Ipriorityr = 8
+bitsOf Icfgr = 2
+bitsOf Irouter = 64
+
+abbrev pub routed : Route → ℕ
+routed (Route.To a) = mpidrOf a
+routed Route.Unset = 0
+
+-- what an owned SPI shows. IGROUPR shows that it is owned; the two enable banks show one bit, and so the pending and the active banks
+abbrev pub shown : Bank → InterruptRecord → ℕ
+shown Igroupr r = 1
+shown Isenabler r = bit (r .enabled)
+shown Icenabler r = bit (r .enabled)
+shown Ispendr r = bit (r .pending)
+shown Icpendr r = bit (r .pending)
+shown Isactiver r = bit (r .active)
+shown Icactiver r = bit (r .active)
+shown Ipriorityr r = r .priority .0
+shown Icfgr r = 2 * bit (not (levelOf (r .trigger)))
+shown Irouter r = routed (routeIn r)
+
+-- whether a written field acts: of a flag bank a 1 does, of the others every field; IGROUPR ignores writes
+abbrev pub acts : Bank → ℕ → Bool
+acts Igroupr f = false
+acts Isenabler f = eqb f 1
+acts Icenabler f = eqb f 1
+acts Ispendr f = eqb f 1
+acts Icpendr f = eqb f 1
+acts Isactiver f = eqb f 1
+acts Icactiver f = eqb f 1
+acts Ipriorityr f = true
+acts Icfgr f = true
+acts Irouter f = true
+
+-- a record replaced in its slot
+abbrev pub withRecord : InterruptRecord → Slot → Slot
+withRecord r s = record { interrupt = r; «explicitly_owned» = s .«explicitly_owned»; «fixed_route» = s .«fixed_route» }
+
+abbrev pub through : Operation → Slot → Slot
+through o s = withRecord (applied o (s .interrupt)) s
+
+-- ICFGR: the upper bit of the two says edge
+abbrev pub triggerIn : ℕ → TriggerMode
+triggerIn f = cond (leb 2 f) TriggerMode.Edge TriggerMode.Level
+
+-- what a field that acts makes of an owned SPI. A fixed route stays
+abbrev pub written : Bank → ℕ → Slot → Slot
+written Igroupr f s = s
+written Isenabler f s = through (SetEnabled true) s
+written Icenabler f s = through (SetEnabled false) s
+written Ispendr f s = through (SetPending true) s
+written Icpendr f s = through (SetPending false) s
+written Isactiver f s = through (SetActive true) s
+written Icactiver f s = through Complete s
+written Ipriorityr f s = through (SetPriority (record { 0 = f })) s
+written Icfgr f s = through (SetTrigger (triggerIn f)) s
+written Irouter f s = cond (s .«fixed_route») s (through (SetRoute (fromMpidr f)) s)
+
+-- whether a write lists the SPIs that it touched and that are deliverable then
+abbrev pub lists : Bank → Bool
+lists Igroupr = false
+lists Isenabler = true
+lists Icenabler = false
+lists Ispendr = true
+lists Icpendr = false
+lists Isactiver = false
+lists Icactiver = true
+lists Ipriorityr = false
+lists Icfgr = false
+lists Irouter = true
+
+-- whether a read is refused beyond the table: a flag or a route there shows 0
+abbrev pub readRefuses : Bank → Bool
+readRefuses Igroupr = false
+readRefuses Isenabler = false
+readRefuses Icenabler = false
+readRefuses Ispendr = false
+readRefuses Icpendr = false
+readRefuses Isactiver = false
+readRefuses Icactiver = false
+readRefuses Ipriorityr = true
+readRefuses Icfgr = true
+readRefuses Irouter = false
+
+-- whether a written field is refused beyond the table: one that acts, but for a route, which is ignored
+abbrev pub writeRefuses : Bank → ℕ → Bool
+writeRefuses Igroupr f = false
+writeRefuses Isenabler f = acts Isenabler f
+writeRefuses Icenabler f = acts Icenabler f
+writeRefuses Ispendr f = acts Ispendr f
+writeRefuses Icpendr f = acts Icpendr f
+writeRefuses Isactiver f = acts Isactiver f
+writeRefuses Icactiver f = acts Icactiver f
+writeRefuses Ipriorityr f = acts Ipriorityr f
+writeRefuses Icfgr f = acts Icfgr f
+writeRefuses Irouter f = false
+
+-- ---- the bank rule: m fields from INTID lo on, the lowest INTID in the lowest bits
+
+-- the field for INTID i in a value whose lowest field is INTID lo's
+abbrev pub field : Bank → ℕ → ℕ → ℕ → ℕ
+field b v lo i = v / (2 ^ bitsOf b) ^ (i - lo) % 2 ^ bitsOf b
+
+-- m fields packed into one number
+abbrev pub packed : Bank → (ℕ → ℕ) → ℕ → ℕ → ℕ
+packed b t lo zero = 0
+packed b t lo (suc m) = packed b t (suc lo) m * 2 ^ bitsOf b + t lo
+
+-- the language reads this past the end of an array; no rule below looks there
+abbrev pub noSlot : Slot
+noSlot = record { interrupt = record { intid = IntId.Sgi (record { 0 = 0 }); enabled = false; pending = false; active = false; inflight = false; «redelivery_pending» = false; «line_asserted» = false; priority = record { 0 = 0 }; trigger = TriggerMode.Edge; routed = false; route = affinity 0 0 0 0; masked = false; «cpu_target_mask» = 0 }; «explicitly_owned» = false; «fixed_route» = false }
+
+-- the slot of INTID i
+abbrev pub slotOf : List Slot → ℕ → Slot
+slotOf slots i = getD slots (i - 32) noSlot
+
+module _ (c : ControllerConfig) (n : ℕ) (b : Bank) where
+  -- reading: an owned SPI of the table shows its field, everything else 0
+  abbrev pub showing : List Slot → ℕ → ℕ
+  showing slots i = cond (inTable n i && owned c (slotOf slots i)) (shown b (slotOf slots i .interrupt)) 0
+
+  abbrev pub bankValue : ℕ → ℕ → List Slot → ℕ
+  bankValue lo m slots = packed b (showing slots) lo m
+
+  -- the INTIDs over which a read, or a write, is refused 1: it carries the lowest
+  abbrev pub readBeyond : ℕ → ℕ → List ℕ
+  readBeyond lo m = passing (λ i. readRefuses b && beyondTable c n i) lo m
+
+  abbrev pub writeBeyond : ℕ → ℕ → ℕ → List ℕ
+  writeBeyond v lo m = passing (λ i. writeRefuses b (field b v lo i) && beyondTable c n i) lo m
+
+  -- an SPI that a write of v acts on, if it is owned
+  abbrev pub reaches : ℕ → ℕ → ℕ → ℕ → Bool
+  reaches v lo m i = within lo (lo + m) i && inTable n i && acts b (field b v lo i)
+
+  -- writing: what an SPI is afterwards
+  abbrev pub bankSlot : ℕ → ℕ → ℕ → ℕ → Slot → Slot
+  bankSlot v lo m i s = cond (reaches v lo m i && owned c s) (written b (field b v lo i) s) s
+
+  -- an SPI is listed where the write touched it and it is deliverable afterwards
+  abbrev pub candidate : ℕ → ℕ → ℕ → List Slot → ℕ → Bool
+  candidate v lo m slots i =
+      lists b && reaches v lo m i && owned c (slotOf slots i) && deliverableIn (bankSlot v lo m i (slotOf slots i) .interrupt)
+
+  abbrev pub bankCandidates : ℕ → ℕ → ℕ → List Slot → List ℕ
+  bankCandidates v lo m slots = passing (candidate v lo m slots) lo m

@@ -1,0 +1,4 @@
+// The GICv3 Distributor: its registers, its table of SPIs, claims, routes and candidates.
+pub mod controller;
+pub mod distributor;
+pub mod register;
