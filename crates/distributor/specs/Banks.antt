@@ -1,5 +1,5 @@
--- One rule for every bank of registers. A bank is a row for each of: the bits of a field, what it shows of an SPI, what a written
--- field does, whether a write lists candidates, what is refused beyond the table.
+-- One rule for every bank of registers. A bank is what it shows of an SPI, what a written field does, whether a write lists
+-- candidates, and what is refused beyond the table.
 use Prim.Native.Nat.{ℕ, zero, suc, _+_, _-_, _*_, _/_, _%_, _^_, min}
 use mathlib.Core.Bool.{Bool, true, false, not, _&&_, _||_, cond}
 use mathlib.Core.List.{List, [], _∷_}
@@ -24,6 +24,7 @@ use Rattle.distributor.specs.declared.controller.GicV3SpiOwnership.the-v
 use Rattle.distributor.specs.declared.distributor.Slot.{Slot}
 use Rattle.distributor.specs.declared.register.Bank.{Bank}
 use Rattle.distributor.specs.declared.register.Bank.the-variants.{Igroupr, Isenabler, Icenabler, Ispendr, Icpendr, Isactiver, Icactiver, Ipriorityr, Icfgr, Irouter}
+use Rattle.distributor.specs.Registers.{bitsOf}
 
 -- ---- ownership and the table
 
@@ -47,19 +48,6 @@ beyondTable c n i = explicit (c .«spi_ownership») && within (32 + n) 1020 i
 
 abbrev pub bit : Bool → ℕ
 bit b = boolByte b
-
--- the bits of a field
-abbrev pub bitsOf : Bank → ℕ
-bitsOf Igroupr = 1
-bitsOf Isenabler = 1
-bitsOf Icenabler = 1
-bitsOf Ispendr = 1
-bitsOf Icpendr = 1
-bitsOf Isactiver = 1
-bitsOf Icactiver = 1
-bitsOf Ipriorityr = 8
-bitsOf Icfgr = 2
-bitsOf Irouter = 64
 
 abbrev pub routed : Route → ℕ
 routed (Route.To a) = mpidrOf a

@@ -4,3 +4,7 @@ pub mod Identity
 pub mod Calls
 pub mod Names
 pub mod Board
+pub mod IdentityLaws
+pub mod MapLaws
+pub mod ReadLaws
+pub mod Replies

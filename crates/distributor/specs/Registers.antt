@@ -31,11 +31,23 @@ abbrev pub takes : Widths → AccessWidth → Bool
 takes (just w) v = eqb (bytesOf w) (bytesOf v)
 takes any v = true
 
+-- the bits that a bank has for each INTID
+abbrev pub bitsOf : Bank → ℕ
+bitsOf Igroupr = 1
+bitsOf Isenabler = 1
+bitsOf Icenabler = 1
+bitsOf Ispendr = 1
+bitsOf Icpendr = 1
+bitsOf Isactiver = 1
+bitsOf Icactiver = 1
+bitsOf Ipriorityr = 8
+bitsOf Icfgr = 2
+bitsOf Irouter = 64
+
 -- what stands in a row of the map
 pub data Kind : Type 0 where
   identification ctlr typer iidr : Kind
-  -- a bank, and how many bits of it each INTID has
-  bank : Bank → ℕ → Kind
+  bank : Bank → Kind
 
 -- the registers at the multiples of `every` from `from` up to below `end`, with the widths for reading and for writing
 pub record Row : Type 0 where
@@ -56,16 +68,16 @@ map =
     ∷ row 0x0000 0x0001 1 (just Dword) (just Dword) ctlr
     ∷ row 0x0004 0x0005 1 (just Dword) any typer
     ∷ row 0x0008 0x0009 1 (just Dword) any iidr
-    ∷ row 0x0080 0x0100 4 (just Dword) any (bank Igroupr 1)
-    ∷ row 0x0100 0x0180 4 (just Dword) (just Dword) (bank Isenabler 1)
-    ∷ row 0x0180 0x0200 4 (just Dword) (just Dword) (bank Icenabler 1)
-    ∷ row 0x0200 0x0280 4 (just Dword) (just Dword) (bank Ispendr 1)
-    ∷ row 0x0280 0x0300 4 (just Dword) (just Dword) (bank Icpendr 1)
-    ∷ row 0x0300 0x0380 4 (just Dword) (just Dword) (bank Isactiver 1)
-    ∷ row 0x0380 0x0400 4 (just Dword) (just Dword) (bank Icactiver 1)
-    ∷ row 0x0400 0x07fc 1 any any (bank Ipriorityr 8)
-    ∷ row 0x0c00 0x0d00 4 (just Dword) (just Dword) (bank Icfgr 2)
-    ∷ row 0x6000 0x7fe0 1 (just Qword) (just Qword) (bank Irouter 64)
+    ∷ row 0x0080 0x0100 4 (just Dword) any (bank Igroupr)
+    ∷ row 0x0100 0x0180 4 (just Dword) (just Dword) (bank Isenabler)
+    ∷ row 0x0180 0x0200 4 (just Dword) (just Dword) (bank Icenabler)
+    ∷ row 0x0200 0x0280 4 (just Dword) (just Dword) (bank Ispendr)
+    ∷ row 0x0280 0x0300 4 (just Dword) (just Dword) (bank Icpendr)
+    ∷ row 0x0300 0x0380 4 (just Dword) (just Dword) (bank Isactiver)
+    ∷ row 0x0380 0x0400 4 (just Dword) (just Dword) (bank Icactiver)
+    ∷ row 0x0400 0x07fc 1 any any (bank Ipriorityr)
+    ∷ row 0x0c00 0x0d00 4 (just Dword) (just Dword) (bank Icfgr)
+    ∷ row 0x6000 0x7fe0 1 (just Qword) (just Qword) (bank Irouter)
     ∷ []
 
 -- the guest reads, or writes
@@ -90,7 +102,7 @@ registerAt identification at w = Identification (at / 4)
 registerAt ctlr at w = Ctlr
 registerAt typer at w = Typer
 registerAt iidr at w = Iidr
-registerAt (bank b bits) at w = Fields b (at * 8 / bits) (bytesOf w * 8 / bits)
+registerAt (bank b) at w = Fields b (at * 8 / bitsOf b) (bytesOf w * 8 / bitsOf b)
 
 -- refusal 4: the row takes another width
 abbrev pub rowAccess : Direction → Row → ℕ → AccessWidth → Access

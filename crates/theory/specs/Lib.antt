@@ -1,1 +1,3 @@
+pub mod Bools
 pub mod Places
+pub mod PlaceLaws

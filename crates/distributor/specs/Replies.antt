@@ -1,0 +1,107 @@
+-- What every reply keeps to: the order of the refusals, and what becomes of the lent list.
+use Prim.Native.Nat.{ℕ, zero, suc, _+_, _-_, _≤_, _<_, min}
+use mathlib.Core.Path.{_≡_, refl, sym, ap, _∙_}
+use mathlib.Core.Bool.{Bool, true, false, _&&_, cond}
+use mathlib.Core.List.{List, [], _∷_}
+use native.Mathlib.Omega.{arith}
+use borrow.Author.Tests.{leb-true, ltb-true, lt-ltb, le-ltb}
+use lib.Dec.{leb, ltb}
+use lib.ListN.{length, getD}
+use Rattle.theory.specs.Bools.{both}
+use Rattle.theory.specs.Places.{laid, passing}
+use Rattle.theory.specs.PlaceLaws.{length-laid, laid-past, passing-few, passing-most}
+use Rattle.interrupt.specs.Answer.{Answer, done, refused, toldRefusal, numberOf, carriedBy, within}
+use Rattle.interrupt.specs.Life.{deliverableIn}
+use Rattle.interrupt.specs.declared.error.Refusal.{Refusal}
+use Rattle.interrupt.specs.declared.error.Refusal.the-variants.{InvalidAccess, InvalidWidth, ShortList}
+use Rattle.distributor.specs.declared.controller.ControllerConfig.{ControllerConfig}
+use Rattle.distributor.specs.declared.distributor.DistributorState.{DistributorState}
+use Rattle.distributor.specs.declared.register.AccessWidth.{AccessWidth}
+use Rattle.distributor.specs.declared.register.Bank.{Bank}
+use Rattle.distributor.specs.declared.register.Register.{Register}
+use Rattle.distributor.specs.declared.register.Register.the-variants.{Identification, Ctlr, Typer, Iidr, Fields, Reserved}
+use Rattle.distributor.specs.declared.register.Access.{Access}
+use Rattle.distributor.specs.declared.register.Access.the-variants.{To, Refused}
+use Rattle.distributor.specs.Registers.{legal, lookup, map, decode, reading, writing}
+use Rattle.distributor.specs.Banks.{owned, inTable, lists, slotOf, reaches, candidate, bankCandidates, writeBeyond}
+use Rattle.distributor.specs.Calls.{Call, read, write, Reply, plain, size, switchBit, switchCandidates, listing, listingUnless, writeAccess, writeReply, reply}
+
+module _ (d : DistributorState) (offset : ℕ) (w : AccessWidth) where
+  -- a read tests 3 first
+  pub read-3 : legal (d .config .«distributor_size») offset w ≡ false → reply (read offset w) d ≡ plain (refused 3 [])
+  unfolding reply decode
+  read-3 h = rw h
+
+  -- then 4, by the map alone
+  pub read-4 : legal (d .config .«distributor_size») offset w ≡ true → lookup reading map offset w ≡ Refused InvalidWidth → reply (read offset w) d ≡ plain (refused 4 [])
+  unfolding reply decode
+  read-4 h e = rw (h, e)
+
+  module _ (v : ℕ) (list : List ℕ) where
+    -- a write tests 5 first, whatever else is wrong with it
+    pub write-5 : length list < size d → reply (write offset w v list) d ≡ record { answer = refused 5 []; list = list }
+    unfolding reply
+    write-5 h = let e : ltb (length list) (size d) ≡ true = lt-ltb _ _ h in rw e
+
+    -- then 3
+    pub write-3 : size d ≤ length list → legal (d .config .«distributor_size») offset w ≡ false → reply (write offset w v list) d ≡ record { answer = refused 3 []; list = list }
+    unfolding reply decode
+    write-3 h l = let e : ltb (length list) (size d) ≡ false = le-ltb _ _ h in rw (e, l)
+
+    -- then 4
+    pub write-4 : size d ≤ length list → legal (d .config .«distributor_size») offset w ≡ true → lookup writing map offset w ≡ Refused InvalidWidth → reply (write offset w v list) d ≡ record { answer = refused 4 []; list = list }
+    unfolding reply decode
+    write-4 h l m = let e : ltb (length list) (size d) ≡ false = le-ltb _ _ h in rw (e, l, m)
+
+    -- what is left of a write once its candidates are known: refused with the list untouched, or done, with the candidates in the
+    -- first places and their number, at most as many as there are SPIs
+    pub data Kept : Reply → Type 0 where
+      turnedDown : (n : ℕ) (c : List ℕ) → Kept (record { answer = refused n c; list = list })
+      listed : (candidates : List ℕ) → length candidates ≤ size d → Kept (record { answer = done (length candidates ∷ []); list = laid candidates list })
+
+    in-table : (n i : ℕ) → inTable n i ≡ true → (32 ≤ i) × (i < 32 + n)
+    in-table n i e = let (low, high) = both (leb 32 i) _ e in (leb-true _ _ low, ltb-true _ _ high)
+
+    -- a candidate is in the table
+    candidate-in : (b : Bank) (lo m i : ℕ) → candidate (d .config) (size d) b v lo m (d .slots) i ≡ true → (32 ≤ i) × (i < 32 + size d)
+    candidate-in b lo m i e =
+        let c = d .config in
+        let n = size d in
+        let s = slotOf (d .slots) i in
+        let owning = lists b && reaches c n b v lo m i && owned c s in
+        let touching = lists b && reaches c n b v lo m i in
+        let covering = within lo (lo + m) i && inTable n i in
+        let reached : reaches c n b v lo m i ≡ true = both (lists b) _ (both touching _ (both owning _ e .0) .0) .1 in
+        in-table n i (both (within lo (lo + m) i) _ (both covering _ reached .0) .1)
+
+    bank-few : (b : Bank) (lo m : ℕ) → length (bankCandidates (d .config) (size d) b v lo m (d .slots)) ≤ size d
+    bank-few b lo m =
+        let few = passing-few (candidate (d .config) (size d) b v lo m (d .slots)) 32 (32 + size d) (candidate-in b lo m) lo m in
+        omega arith
+
+    switch-few : length (switchCandidates d v) ≤ size d
+    switch-few = go (switchBit v)
+      where
+        test : ℕ → Bool
+        test i = deliverableIn (slotOf (d .slots) i .interrupt)
+
+        go : (b : Bool) → length (cond b (passing test 32 (size d)) []) ≤ size d
+        go true = passing-most test 32 (size d)
+        go false = omega arith
+
+    kept-write : (a : Access) → Kept (writeReply d a v list)
+    kept-write (Refused f) = turnedDown (numberOf f) (carriedBy f)
+    kept-write (To (Identification k)) = listed [] (omega arith)
+    kept-write (To Ctlr) = listed (switchCandidates d v) switch-few
+    kept-write (To Typer) = listed [] (omega arith)
+    kept-write (To Iidr) = listed [] (omega arith)
+    kept-write (To (Fields b lo m)) = go (writeBeyond (d .config) (size d) b v lo m)
+      where
+        go : (l : List ℕ) → Kept (listingUnless d l (bankCandidates (d .config) (size d) b v lo m (d .slots)) list)
+        go [] = listed (bankCandidates (d .config) (size d) b v lo m (d .slots)) (bank-few b lo m)
+        go (i ∷ is) = turnedDown 1 (i ∷ [])
+    kept-write (To Reserved) = listed [] (omega arith)
+
+    pub list-kept : Kept (reply (write offset w v list) d)
+    unfolding reply
+    list-kept = kept-write (writeAccess (d .config) (size d) offset w list)

@@ -1,0 +1,52 @@
+-- Laws of lists place by place.
+use Prim.Native.Nat.{ℕ, zero, suc, _+_, _-_, _≤_, _<_, max}
+use mathlib.Core.Path.{_≡_, refl, sym, ap, _∙_}
+use mathlib.Core.Bool.{Bool, true, false, cond}
+use mathlib.Core.List.{List, [], _∷_}
+use native.Mathlib.Nat.{le-of-suc-le-suc, not-suc-le-zero, add-zero, add-suc}
+use native.Mathlib.Omega.{arith}
+use lib.ListN.{length, getD, drop, length-append, length-drop}
+use lib.Seq.{getD-append-add, getD-drop}
+use Rattle.theory.specs.Places.{tabulate, laid, passing}
+
+module _ {A : Type 0} where
+  pub length-laid : (xs l : List A) → length xs ≤ length l → length (laid xs l) ≡ length l
+  length-laid xs l h = simp (length-append, length-drop) (omega arith)
+
+  -- past the elements that were laid the list is as it was
+  pub laid-past : (xs l : List A) (i : ℕ) (d : A) → length xs ≤ i → getD (laid xs l) i d ≡ getD l i d
+  laid-past xs l i d h =
+      let e : i ≡ length xs + (i - length xs) = omega arith in
+      rw e (getD-append-add xs (drop (length xs) l) (i - length xs) d ∙ getD-drop (length xs) l (i - length xs) d)
+
+  at-tabulate : (f : ℕ → A) (k n i : ℕ) (d : A) → i < n → getD (tabulate f k n) i d ≡ f (k + i)
+  at-tabulate f k zero i d h = absurd (not-suc-le-zero h)
+  at-tabulate f k (suc n) zero d h = rw (add-zero k)
+  at-tabulate f k (suc n) (suc i) d h = at-tabulate f (suc k) n i d (le-of-suc-le-suc h) ∙ (let e : suc k + i ≡ k + suc i = omega arith in rw e)
+
+  -- two functions that give the same table are the same below its length: a rule of a table is one computed equation
+  pub everywhere : (f g : ℕ → A) (n : ℕ) → tabulate f 0 n ≡ tabulate g 0 n → (i : ℕ) → i < n → f i ≡ g i
+  everywhere f g n e i h =
+      let z : 0 + i ≡ i = omega arith in
+      ap f (sym z) ∙ sym (at-tabulate f 0 n i (f 0) h) ∙ ap (λ (l : List A). getD l i (f 0)) e ∙ at-tabulate g 0 n i (f 0) h ∙ ap g z
+
+-- how many numbers pass a test that only numbers from a up to below end can pass
+module _ (t : ℕ → Bool) (a end : ℕ) (inside : (i : ℕ) → t i ≡ true → (a ≤ i) × (i < end)) where
+  passing-from : (k n : ℕ) → length (passing t k n) ≤ end - max k a
+  passing-from k zero = omega arith
+  passing-from k (suc n) = go (t k) refl (passing-from (suc k) n)
+    where
+      go : (b : Bool) → t k ≡ b → length (passing t (suc k) n) ≤ end - max (suc k) a → length (cond b (k ∷ passing t (suc k) n) (passing t (suc k) n)) ≤ end - max k a
+      go true e h = let p = inside k e in omega arith
+      go false e h = omega arith
+
+  pub passing-few : (k n : ℕ) → length (passing t k n) ≤ end - a
+  passing-few k n = let h = passing-from k n in omega arith
+
+pub passing-most : (t : ℕ → Bool) (k n : ℕ) → length (passing t k n) ≤ n
+passing-most t k zero = omega arith
+passing-most t k (suc n) = go (t k) (passing-most t (suc k) n)
+  where
+    go : (b : Bool) → length (passing t (suc k) n) ≤ n → length (cond b (k ∷ passing t (suc k) n) (passing t (suc k) n)) ≤ suc n
+    go true h = omega arith
+    go false h = omega arith
