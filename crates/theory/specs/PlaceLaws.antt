@@ -2,10 +2,10 @@
 use Prim.Native.Nat.{ℕ, zero, suc, _+_, _-_, _≤_, _<_, max}
 use mathlib.Core.Path.{_≡_, refl, sym, ap, _∙_}
 use mathlib.Core.Bool.{Bool, true, false, cond}
-use mathlib.Core.List.{List, [], _∷_}
+use mathlib.Core.List.{List, [], _∷_, _++_}
 use native.Mathlib.Nat.{le-of-suc-le-suc, not-suc-le-zero, add-zero, add-suc}
 use native.Mathlib.Omega.{arith}
-use lib.ListN.{length, getD, drop, length-append, length-drop}
+use lib.ListN.{length, getD, set, drop, length-append, length-drop}
 use lib.Seq.{getD-append-add, getD-drop}
 use Rattle.theory.specs.Places.{tabulate, laid, passing}
 
@@ -50,3 +50,24 @@ passing-most t k (suc n) = go (t k) (passing-most t (suc k) n)
     go : (b : Bool) → length (passing t (suc k) n) ≤ n → length (cond b (k ∷ passing t (suc k) n) (passing t (suc k) n)) ≤ suc n
     go true h = omega arith
     go false h = omega arith
+
+-- one number more, at the end
+pub passing-more : (t : ℕ → Bool) (k n : ℕ) → passing t k (suc n) ≡ passing t k n ++ cond (t (k + n)) ((k + n) ∷ []) []
+passing-more t k zero = rw (add-zero k)
+passing-more t k (suc n) =
+    let e : suc k + n ≡ k + suc n = omega arith in
+    let rest : passing t (suc k) (suc n) ≡ passing t (suc k) n ++ cond (t (k + suc n)) ((k + suc n) ∷ []) [] = rw (← e) (passing-more t (suc k) n) in
+    go (t k) rest
+  where
+    go : (b : Bool) → passing t (suc k) (suc n) ≡ passing t (suc k) n ++ cond (t (k + suc n)) ((k + suc n) ∷ []) []
+        → cond b (k ∷ passing t (suc k) (suc n)) (passing t (suc k) (suc n)) ≡ cond b (k ∷ passing t (suc k) n) (passing t (suc k) n) ++ cond (t (k + suc n)) ((k + suc n) ∷ []) []
+    go true h = ap (λ (l : List ℕ). k ∷ l) h
+    go false h = h
+
+module _ {A : Type 0} where
+  -- one element more is a store at the place after the last
+  pub laid-more : (xs l : List A) (x : A) → length xs < length l → set (laid xs l) (length xs) x ≡ laid (xs ++ (x ∷ [])) l
+  laid-more [] [] x h = absurd (omega arith)
+  laid-more [] (y ∷ ys) x h = refl
+  laid-more (z ∷ zs) [] x h = absurd (omega arith)
+  laid-more (z ∷ zs) (y ∷ ys) x h = ap (λ (l : List A). z ∷ l) (laid-more zs ys x (le-of-suc-le-suc h))
