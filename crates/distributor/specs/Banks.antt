@@ -99,7 +99,7 @@ written Ispendr f s = through (SetPending true) s
 written Icpendr f s = through (SetPending false) s
 written Isactiver f s = through (SetActive true) s
 written Icactiver f s = through Complete s
-written Ipriorityr f s = through (SetPriority (record { 0 = f })) s
+written Ipriorityr f s = through (SetPriority (record { 0 = f % 256 })) s
 written Icfgr f s = through (SetTrigger (triggerIn f)) s
 written Irouter f s = cond (s .«fixed_route») s (through (SetRoute (fromMpidr f)) s)
 

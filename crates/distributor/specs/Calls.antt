@@ -31,7 +31,8 @@ use Rattle.distributor.specs.declared.register.Register.{Register}
 use Rattle.distributor.specs.declared.register.Register.the-variants.{Identification, Ctlr, Typer, Iidr, Fields, Reserved}
 use Rattle.distributor.specs.declared.register.Access.{Access}
 use Rattle.distributor.specs.declared.register.Access.the-variants.{To, Refused}
-use Rattle.distributor.specs.Registers.{decode, reading, writing}
+use Rattle.distributor.specs.declared.register.Direction.the-variants.{Reading, Writing}
+use Rattle.distributor.specs.Registers.{decode}
 use Rattle.distributor.specs.Banks.{bit, inTable, slotOf, withRecord, through, bankValue, readBeyond, writeBeyond, bankSlot, bankCandidates}
 use Rattle.distributor.specs.Identity.{componentId, iidrValue, ctlrValue, typerValue}
 
@@ -78,7 +79,7 @@ created c n = record { config = c; enabled = false; «spi_count» = n; slots = t
 -- refusal 5 comes first: a list with fewer places than the table has records
 abbrev pub writeAccess : ControllerConfig → ℕ → ℕ → AccessWidth → List ℕ → Access
 writeAccess c n offset w list =
-    cond (ltb (length list) n) (Refused ShortList) (decode writing (c .«distributor_size») offset w)
+    cond (ltb (length list) n) (Refused ShortList) (decode Writing (c .«distributor_size») offset w)
 
 -- CTLR's bit 1
 abbrev pub switchBit : ℕ → Bool
@@ -269,7 +270,7 @@ module _ (d : DistributorState) where
 
 unfoldable pub reply : Call → DistributorState → Reply
 reply (create c n) d = plain (cond (leb n 988) (done []) (refused 1 (1020 ∷ [])))
-reply (read offset w) d = readReply d (decode reading (d .config .«distributor_size») offset w)
+reply (read offset w) d = readReply d (decode Reading (d .config .«distributor_size») offset w)
 reply (write offset w v list) d = writeReply d (writeAccess (d .config) (size d) offset w list) v list
 reply isEnabled d = plain (done (bit (d .enabled) ∷ []))
 reply (rollback on) d = plain (done [])

@@ -21,7 +21,10 @@ use Rattle.distributor.specs.declared.register.Register.{Register}
 use Rattle.distributor.specs.declared.register.Register.the-variants.{Identification, Ctlr, Typer, Iidr, Fields, Reserved}
 use Rattle.distributor.specs.declared.register.Access.{Access}
 use Rattle.distributor.specs.declared.register.Access.the-variants.{To, Refused}
-use Rattle.distributor.specs.Registers.{Row, map, holds, lookup, Direction, reading, writing}
+use Rattle.distributor.specs.declared.register.Direction.{Direction}
+use Rattle.distributor.specs.declared.register.Direction.the-variants.{Reading, Writing}
+use Rattle.distributor.specs.declared.register.Row.{Row}
+use Rattle.distributor.specs.Registers.{map, holds, lookup}
 
 -- ---- one register an offset
 
@@ -86,19 +89,19 @@ abbrev pub flagBank : ℕ → Bank
 flagBank j = getD (Igroupr ∷ Isenabler ∷ Icenabler ∷ Ispendr ∷ Icpendr ∷ Isactiver ∷ Icactiver ∷ []) j Igroupr
 
 pub flag-intids : (d : Direction) (k : ℕ) → k < 224 → lookup d map (0x80 + 4 * k) Dword ≡ To (Fields (flagBank (k / 32)) (32 * (k % 32)) 32)
-flag-intids reading = everywhere (λ k. lookup reading map (0x80 + 4 * k) Dword) (λ k. To (Fields (flagBank (k / 32)) (32 * (k % 32)) 32)) 224 refl
-flag-intids writing = everywhere (λ k. lookup writing map (0x80 + 4 * k) Dword) (λ k. To (Fields (flagBank (k / 32)) (32 * (k % 32)) 32)) 224 refl
+flag-intids Reading = everywhere (λ k. lookup Reading map (0x80 + 4 * k) Dword) (λ k. To (Fields (flagBank (k / 32)) (32 * (k % 32)) 32)) 224 refl
+flag-intids Writing = everywhere (λ k. lookup Writing map (0x80 + 4 * k) Dword) (λ k. To (Fields (flagBank (k / 32)) (32 * (k % 32)) 32)) 224 refl
 
 -- IPRIORITYR has a byte, and IROUTER eight, for each INTID
 pub ipriorityr-intids : (d : Direction) (i : ℕ) → i < 1020 → lookup d map (0x400 + i) Byte ≡ To (Fields Ipriorityr i 1)
-ipriorityr-intids reading = everywhere (λ i. lookup reading map (0x400 + i) Byte) (λ i. To (Fields Ipriorityr i 1)) 1020 refl
-ipriorityr-intids writing = everywhere (λ i. lookup writing map (0x400 + i) Byte) (λ i. To (Fields Ipriorityr i 1)) 1020 refl
+ipriorityr-intids Reading = everywhere (λ i. lookup Reading map (0x400 + i) Byte) (λ i. To (Fields Ipriorityr i 1)) 1020 refl
+ipriorityr-intids Writing = everywhere (λ i. lookup Writing map (0x400 + i) Byte) (λ i. To (Fields Ipriorityr i 1)) 1020 refl
 
 pub irouter-intids : (d : Direction) (i : ℕ) → i < 1020 → lookup d map (0x6000 + 8 * i) Qword ≡ To (Fields Irouter i 1)
-irouter-intids reading = everywhere (λ i. lookup reading map (0x6000 + 8 * i) Qword) (λ i. To (Fields Irouter i 1)) 1020 refl
-irouter-intids writing = everywhere (λ i. lookup writing map (0x6000 + 8 * i) Qword) (λ i. To (Fields Irouter i 1)) 1020 refl
+irouter-intids Reading = everywhere (λ i. lookup Reading map (0x6000 + 8 * i) Qword) (λ i. To (Fields Irouter i 1)) 1020 refl
+irouter-intids Writing = everywhere (λ i. lookup Writing map (0x6000 + 8 * i) Qword) (λ i. To (Fields Irouter i 1)) 1020 refl
 
 -- ICFGR has 64 words, two bits for each INTID
 pub icfgr-intids : (d : Direction) (k : ℕ) → k < 64 → lookup d map (0xc00 + 4 * k) Dword ≡ To (Fields Icfgr (16 * k) 16)
-icfgr-intids reading = everywhere (λ k. lookup reading map (0xc00 + 4 * k) Dword) (λ k. To (Fields Icfgr (16 * k) 16)) 64 refl
-icfgr-intids writing = everywhere (λ k. lookup writing map (0xc00 + 4 * k) Dword) (λ k. To (Fields Icfgr (16 * k) 16)) 64 refl
+icfgr-intids Reading = everywhere (λ k. lookup Reading map (0xc00 + 4 * k) Dword) (λ k. To (Fields Icfgr (16 * k) 16)) 64 refl
+icfgr-intids Writing = everywhere (λ k. lookup Writing map (0xc00 + 4 * k) Dword) (λ k. To (Fields Icfgr (16 * k) 16)) 64 refl

@@ -8,7 +8,8 @@ use Rattle.distributor.specs.declared.register.Register.{Register}
 use Rattle.distributor.specs.declared.register.Register.the-variants.{Identification, Ctlr, Typer, Iidr, Fields, Reserved}
 use Rattle.distributor.specs.declared.register.Access.{Access}
 use Rattle.distributor.specs.declared.register.Access.the-variants.{To, Refused}
-use Rattle.distributor.specs.Registers.{decode, reading}
+use Rattle.distributor.specs.declared.register.Direction.the-variants.{Reading}
+use Rattle.distributor.specs.Registers.{decode}
 use Rattle.distributor.specs.Banks.{inTable, reaches}
 use Rattle.distributor.specs.Calls.{Call, create, read, write, isEnabled, rollback, claimSoftware, claimPhysical, release, operate, ask, writeAccess, switchBit}
 
@@ -55,7 +56,7 @@ module _ (c : ControllerConfig) (n : ℕ) where
   -- a call refused 3, 4 or 5 is decoded to its refusal, and names nothing; one refused 1 beyond the table names what it reaches
   unfoldable pub names : Call → Name → Bool
   names (create d k) m = false
-  names (read offset w) m = readNames (decode reading (c .«distributor_size») offset w) m
+  names (read offset w) m = readNames (decode Reading (c .«distributor_size») offset w) m
   names (write offset w v list) m = writeNames (writeAccess c n offset w list) v m
   names isEnabled m = switchNames m
   names (rollback on) m = switchNames m

@@ -31,7 +31,10 @@ use Rattle.distributor.specs.declared.register.Register.{Register}
 use Rattle.distributor.specs.declared.register.Register.the-variants.{Identification, Ctlr, Typer, Iidr, Fields, Reserved}
 use Rattle.distributor.specs.declared.register.Access.{Access}
 use Rattle.distributor.specs.declared.register.Access.the-variants.{To, Refused}
-use Rattle.distributor.specs.Registers.{bytesOf, bitsOf, Widths, just, any, takes, Kind, identification, ctlr, typer, iidr, bank, Row, map, holds, registerAt, rowAccess, lookup, legal, decode, reading}
+use Rattle.distributor.specs.declared.register.Direction.the-variants.{Reading}
+use Rattle.distributor.specs.declared.register.Row.{Row}
+use Rattle.distributor.specs.declared.register.Widths.the-variants.{Just}
+use Rattle.distributor.specs.Registers.{bytesOf, bitsOf, takes, map, holds, registerAt, rowAccess, lookup, legal, decode}
 use Rattle.distributor.specs.Banks.{inTable, owned, slotOf, routed, shown, packed, showing, bankValue, readBeyond}
 use Rattle.distributor.specs.Identity.{componentId, iidrValue, ctlrValue, idBits, largestIntId, typerValue}
 use Rattle.distributor.specs.Calls.{read, size, unless, reply, readReply}
@@ -51,7 +54,7 @@ Sound Iidr w = w ≡ Dword
 Sound (Fields b lo m) w = bitsOf b * m ≤ 8 * bytesOf w
 Sound Reserved w = Unit {0}
 
-only-dword : (w : AccessWidth) → takes (just Dword) w ≡ true → w ≡ Dword
+only-dword : (w : AccessWidth) → takes (Just Dword) w ≡ true → w ≡ Dword
 only-dword Byte e = cc
 only-dword Word e = cc
 only-dword Dword e = refl
@@ -112,22 +115,22 @@ sound-rows = (
   ),
 )
 
-lookup-sound : (rs : List Row) → SoundRows rs → (o : ℕ) (w : AccessWidth) (r : Register) → lookup reading rs o w ≡ To r → Sound r w
+lookup-sound : (rs : List Row) → SoundRows rs → (o : ℕ) (w : AccessWidth) (r : Register) → lookup Reading rs o w ≡ To r → Sound r w
 lookup-sound [] ok o w r e = let p : Reserved ≡ r = cc in subst (λ (x : Register). Sound x w) p tt
 lookup-sound (k ∷ ks) ok o w r e = go (holds k o) (takes (k .reads) w) refl refl e (lookup-sound ks (ok .1) o w r)
   where
     go : (h t : Bool) → holds k o ≡ h → takes (k .reads) w ≡ t
-        → cond h (cond t (To (registerAt (k .kind) (o - k .from) w)) (Refused InvalidWidth)) (lookup reading ks o w) ≡ To r
-        → (lookup reading ks o w ≡ To r → Sound r w) → Sound r w
+        → cond h (cond t (To (registerAt (k .kind) (o - k .from) w)) (Refused InvalidWidth)) (lookup Reading ks o w) ≡ To r
+        → (lookup Reading ks o w ≡ To r → Sound r w) → Sound r w
     go true true p q f rest = let z : registerAt (k .kind) (o - k .from) w ≡ r = cc in subst (λ (x : Register). Sound x w) z (ok .0 (o - k .from) w q)
     go true false p q f rest = let z : _≡_ {A = ℕ} 0 1 = cc in absurd (omega arith)
     go false t p q f rest = rest f
 
-decode-sound : (frame o : ℕ) (w : AccessWidth) (r : Register) → decode reading frame o w ≡ To r → Sound r w
+decode-sound : (frame o : ℕ) (w : AccessWidth) (r : Register) → decode Reading frame o w ≡ To r → Sound r w
 unfolding decode
 decode-sound frame o w r e = go (legal frame o w) e
   where
-    go : (h : Bool) → cond h (lookup reading map o w) (Refused InvalidAccess) ≡ To r → Sound r w
+    go : (h : Bool) → cond h (lookup Reading map o w) (Refused InvalidAccess) ≡ To r → Sound r w
     go true f = lookup-sound map sound-rows o w r f
     go false f = let z : _≡_ {A = ℕ} 0 1 = cc in absurd (omega arith)
 
@@ -216,9 +219,9 @@ module _ (d : DistributorState) (ok : Typed d) where
   -- a value that is read has no bits past the width of the read
   pub read-fits : (offset : ℕ) (w : AccessWidth) (v : ℕ) → reply (read offset w) d .answer ≡ done (v ∷ []) → v < 2 ^ (8 * bytesOf w)
   unfolding reply
-  read-fits offset w v e = go (decode reading (d .config .«distributor_size») offset w) refl e
+  read-fits offset w v e = go (decode Reading (d .config .«distributor_size») offset w) refl e
     where
-      go : (a : Access) → decode reading (d .config .«distributor_size») offset w ≡ a → readReply d a .answer ≡ done (v ∷ []) → v < 2 ^ (8 * bytesOf w)
+      go : (a : Access) → decode Reading (d .config .«distributor_size») offset w ≡ a → readReply d a .answer ≡ done (v ∷ []) → v < 2 ^ (8 * bytesOf w)
       go (Refused f) p q = let z : _≡_ {A = ℕ} 0 1 = cc in absurd (omega arith)
       go (To (Identification k)) p q = let z : getD componentId k 0 ≡ v = cc in rw z at (byte-fits _ w (id-fits k))
       go (To Ctlr) p q = let z : ctlrValue (d .enabled) ≡ v = cc in let b = bit-fits (d .enabled) in byte-fits v w (omega arith)

@@ -22,7 +22,8 @@ use Rattle.distributor.specs.declared.register.Register.{Register}
 use Rattle.distributor.specs.declared.register.Register.the-variants.{Identification, Ctlr, Typer, Iidr, Fields, Reserved}
 use Rattle.distributor.specs.declared.register.Access.{Access}
 use Rattle.distributor.specs.declared.register.Access.the-variants.{To, Refused}
-use Rattle.distributor.specs.Registers.{legal, lookup, map, decode, reading, writing}
+use Rattle.distributor.specs.declared.register.Direction.the-variants.{Reading, Writing}
+use Rattle.distributor.specs.Registers.{legal, lookup, map, decode}
 use Rattle.distributor.specs.Banks.{owned, inTable, lists, slotOf, reaches, candidate, bankCandidates, writeBeyond}
 use Rattle.distributor.specs.Calls.{Call, read, write, Reply, plain, size, switchBit, switchCandidates, listing, listingUnless, writeAccess, writeReply, reply}
 
@@ -33,7 +34,7 @@ module _ (d : DistributorState) (offset : ℕ) (w : AccessWidth) where
   read-3 h = rw h
 
   -- then 4, by the map alone
-  pub read-4 : legal (d .config .«distributor_size») offset w ≡ true → lookup reading map offset w ≡ Refused InvalidWidth → reply (read offset w) d ≡ plain (refused 4 [])
+  pub read-4 : legal (d .config .«distributor_size») offset w ≡ true → lookup Reading map offset w ≡ Refused InvalidWidth → reply (read offset w) d ≡ plain (refused 4 [])
   unfolding reply decode
   read-4 h e = rw (h, e)
 
@@ -49,7 +50,7 @@ module _ (d : DistributorState) (offset : ℕ) (w : AccessWidth) where
     write-3 h l = let e : ltb (length list) (size d) ≡ false = le-ltb _ _ h in rw (e, l)
 
     -- then 4
-    pub write-4 : size d ≤ length list → legal (d .config .«distributor_size») offset w ≡ true → lookup writing map offset w ≡ Refused InvalidWidth → reply (write offset w v list) d ≡ record { answer = refused 4 []; list = list }
+    pub write-4 : size d ≤ length list → legal (d .config .«distributor_size») offset w ≡ true → lookup Writing map offset w ≡ Refused InvalidWidth → reply (write offset w v list) d ≡ record { answer = refused 4 []; list = list }
     unfolding reply decode
     write-4 h l m = let e : ltb (length list) (size d) ≡ false = le-ltb _ _ h in rw (e, l, m)
 
