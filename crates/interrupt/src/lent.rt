@@ -1,0 +1,37 @@
+// The two line calls on a record where it lies. `set_level_in_place` and `pulse_in_place` copy the lent record out, call the
+// method on the copy, and store what it hands back: at exit the reference holds what the method makes of the record that was
+// there at entry. Their proofs follow the code by hand. `set_level_lent` and `pulse_lent` take the record by value, lend it
+// and hand it back, so that whoever calls those needs no such proof.
+use crate::interrupt::InterruptRecord;
+ghost use mathlib.Core.Path.{_≡_};
+ghost use Rattle.interrupt.specs.Life.{levelTo, pulsed};
+
+pub fn set_level_in_place(r: &mut InterruptRecord, asserted: bool)
+    ensures { λ _. ⌜ now (r .exit) ≡ levelTo asserted (now (r .entry)) ⌝ }
+{
+    let old = *r;
+    *r = old.set_level(asserted);
+}
+
+pub fn pulse_in_place(r: &mut InterruptRecord)
+    ensures { λ _. ⌜ now (r .exit) ≡ pulsed (now (r .entry)) ⌝ }
+{
+    let old = *r;
+    *r = old.pulse();
+}
+
+pub fn set_level_lent(interrupt: InterruptRecord, asserted: bool) -> InterruptRecord
+    ensures { λ r. ⌜ r ≡ levelTo asserted interrupt ⌝ }
+{
+    let mut held = interrupt;
+    set_level_in_place(&mut held, asserted);
+    held
+}
+
+pub fn pulse_lent(interrupt: InterruptRecord) -> InterruptRecord
+    ensures { λ r. ⌜ r ≡ pulsed interrupt ⌝ }
+{
+    let mut held = interrupt;
+    pulse_in_place(&mut held);
+    held
+}
