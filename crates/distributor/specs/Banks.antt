@@ -9,7 +9,6 @@ use lib.ListN.{getD}
 use Rattle.theory.specs.Places.{passing}
 use Rattle.interrupt.specs.Answer.{within}
 use Rattle.interrupt.specs.Affinity.{affinity, fromMpidr, mpidrOf}
-use Rattle.interrupt.specs.State.{levelOf}
 use Rattle.interrupt.specs.Life.{routeIn, deliverableIn}
 use Rattle.interrupt.specs.Operation.{applied}
 use Rattle.interrupt.specs.declared.types.IntId.{IntId}
@@ -21,7 +20,7 @@ use Rattle.interrupt.specs.declared.operation.Operation.the-variants.{SetEnable
 use Rattle.distributor.specs.declared.controller.ControllerConfig.{ControllerConfig}
 use Rattle.distributor.specs.declared.controller.GicV3SpiOwnership.{GicV3SpiOwnership}
 use Rattle.distributor.specs.declared.controller.GicV3SpiOwnership.the-variants.{AllGuestOwned, Explicit}
-use Rattle.distributor.specs.declared.distributor.Slot.{Slot}
+use Rattle.distributor.specs.declared.bank.Slot.{Slot}
 use Rattle.distributor.specs.declared.register.Bank.{Bank}
 use Rattle.distributor.specs.declared.register.Bank.the-variants.{Igroupr, Isenabler, Icenabler, Ispendr, Icpendr, Isactiver, Icactiver, Ipriorityr, Icfgr, Irouter}
 use Rattle.distributor.specs.Registers.{bitsOf}
@@ -53,6 +52,11 @@ abbrev pub routed : Route → ℕ
 routed (Route.To a) = mpidrOf a
 routed Route.Unset = 0
 
+-- ICFGR: 2 for edge, 0 for level
+abbrev pub edgeField : TriggerMode → ℕ
+edgeField TriggerMode.Edge = 2
+edgeField TriggerMode.Level = 0
+
 -- what an owned SPI shows. IGROUPR shows that it is owned; the two enable banks show one bit, and so the pending and the active banks
 abbrev pub shown : Bank → InterruptRecord → ℕ
 shown Igroupr r = 1
@@ -63,7 +67,7 @@ shown Icpendr r = bit (r .pending)
 shown Isactiver r = bit (r .active)
 shown Icactiver r = bit (r .active)
 shown Ipriorityr r = r .priority .0
-shown Icfgr r = 2 * bit (not (levelOf (r .trigger)))
+shown Icfgr r = edgeField (r .trigger)
 shown Irouter r = routed (routeIn r)
 
 -- whether a written field acts: of a flag bank a 1 does, of the others every field; IGROUPR ignores writes
@@ -129,18 +133,22 @@ readRefuses Ipriorityr = true
 readRefuses Icfgr = true
 readRefuses Irouter = false
 
--- whether a written field is refused beyond the table: one that acts, but for a route, which is ignored
+-- IROUTER ignores what it has no SPI for
+abbrev pub ignoresBeyond : Bank → Bool
+ignoresBeyond Igroupr = false
+ignoresBeyond Isenabler = false
+ignoresBeyond Icenabler = false
+ignoresBeyond Ispendr = false
+ignoresBeyond Icpendr = false
+ignoresBeyond Isactiver = false
+ignoresBeyond Icactiver = false
+ignoresBeyond Ipriorityr = false
+ignoresBeyond Icfgr = false
+ignoresBeyond Irouter = true
+
+-- whether a written field is refused beyond the table: one that acts
 abbrev pub writeRefuses : Bank → ℕ → Bool
-writeRefuses Igroupr f = false
-writeRefuses Isenabler f = acts Isenabler f
-writeRefuses Icenabler f = acts Icenabler f
-writeRefuses Ispendr f = acts Ispendr f
-writeRefuses Icpendr f = acts Icpendr f
-writeRefuses Isactiver f = acts Isactiver f
-writeRefuses Icactiver f = acts Icactiver f
-writeRefuses Ipriorityr f = acts Ipriorityr f
-writeRefuses Icfgr f = acts Icfgr f
-writeRefuses Irouter f = false
+writeRefuses b f = not (ignoresBeyond b) && acts b f
 
 -- ---- the bank rule: m fields from INTID lo on, the lowest INTID in the lowest bits
 

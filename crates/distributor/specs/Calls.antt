@@ -23,7 +23,7 @@ use Rattle.interrupt.specs.declared.interrupt.TargetMask.{TargetMask}
 use Rattle.interrupt.specs.declared.operation.Operation.{Operation}
 use Rattle.interrupt.specs.declared.operation.Operation.the-variants.{SetEnabled, SetPending, SetActive, SetState, ClearDeliveryState, MarkInflight, SynchronizeInflight, CancelInflight, FinishInflight, DeactivateInflight, SetPriority, SetTrigger, SetRoute, ClearRoute, SetCpuTargetMask, SetLevel, Pulse, Complete}
 use Rattle.distributor.specs.declared.controller.ControllerConfig.{ControllerConfig}
-use Rattle.distributor.specs.declared.distributor.Slot.{Slot}
+use Rattle.distributor.specs.declared.bank.Slot.{Slot}
 use Rattle.distributor.specs.declared.distributor.DistributorState.{DistributorState}
 use Rattle.distributor.specs.declared.register.AccessWidth.{AccessWidth}
 use Rattle.distributor.specs.declared.register.Bank.{Bank}

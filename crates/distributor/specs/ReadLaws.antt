@@ -15,13 +15,13 @@ use lib.ListN.{getD}
 use Rattle.interrupt.specs.Answer.{Answer, done, refused, toldRefusal}
 use Rattle.interrupt.specs.Affinity.{mpidrOf}
 use Rattle.interrupt.specs.AffinityLaws.{Bytes}
-use Rattle.interrupt.specs.State.{levelOf}
+use Rattle.interrupt.specs.declared.types.TriggerMode.{TriggerMode}
 use Rattle.interrupt.specs.Life.{routeIn}
 use Rattle.interrupt.specs.declared.interrupt.InterruptRecord.{InterruptRecord}
 use Rattle.interrupt.specs.declared.interrupt.Route.{Route}
 use Rattle.interrupt.specs.declared.error.Refusal.the-variants.{InvalidAccess, InvalidWidth}
 use Rattle.distributor.specs.declared.distributor.DistributorState.{DistributorState}
-use Rattle.distributor.specs.declared.distributor.Slot.{Slot}
+use Rattle.distributor.specs.declared.bank.Slot.{Slot}
 use Rattle.distributor.specs.declared.controller.ControllerConfig.{ControllerConfig}
 use Rattle.distributor.specs.declared.register.AccessWidth.{AccessWidth}
 use Rattle.distributor.specs.declared.register.AccessWidth.the-variants.{Byte, Word, Dword, Qword}
@@ -35,7 +35,7 @@ use Rattle.distributor.specs.declared.register.Direction.the-variants.{R
 use Rattle.distributor.specs.declared.register.Row.{Row}
 use Rattle.distributor.specs.declared.register.Widths.the-variants.{Just}
 use Rattle.distributor.specs.Registers.{bytesOf, bitsOf, takes, map, holds, registerAt, rowAccess, lookup, legal, decode}
-use Rattle.distributor.specs.Banks.{inTable, owned, slotOf, routed, shown, packed, showing, bankValue, readBeyond}
+use Rattle.distributor.specs.Banks.{inTable, owned, slotOf, routed, edgeField, shown, packed, showing, bankValue, readBeyond}
 use Rattle.distributor.specs.Identity.{componentId, iidrValue, ctlrValue, idBits, largestIntId, typerValue}
 use Rattle.distributor.specs.Calls.{read, size, unless, reply, readReply}
 
@@ -148,9 +148,13 @@ packed-fits b t h lo zero = rw (pow-zero (2 ^ bitsOf b)) (omega arith)
 packed-fits b t h lo (suc m) =
     rw (pow-suc (2 ^ bitsOf b) m) (digit-fits (packed b t (suc lo) m) ((2 ^ bitsOf b) ^ m) (t lo) (2 ^ bitsOf b) (packed-fits b t h (suc lo) m) (h lo))
 
-bit-fits : (b : Bool) → boolByte b < 2
+pub bit-fits : (b : Bool) → boolByte b < 2
 bit-fits true = omega arith
 bit-fits false = omega arith
+
+pub edge-fits : (t : TriggerMode) → edgeField t < 4
+edge-fits TriggerMode.Edge = omega arith
+edge-fits TriggerMode.Level = omega arith
 
 route-fits : (r : InterruptRecord) → Bytes (r .route) → shown Irouter r < 2 ^ 64
 unfolding routeIn
@@ -169,7 +173,7 @@ shown-fits Icpendr r p h = bit-fits (r .pending)
 shown-fits Isactiver r p h = bit-fits (r .active)
 shown-fits Icactiver r p h = bit-fits (r .active)
 shown-fits Ipriorityr r p h = p
-shown-fits Icfgr r p h = let e = bit-fits (not (levelOf (r .trigger))) in omega arith
+shown-fits Icfgr r p h = edge-fits (r .trigger)
 shown-fits Irouter r p h = route-fits r h
 
 id-fits : (k : ℕ) → getD componentId k 0 < 256

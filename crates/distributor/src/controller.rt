@@ -1,4 +1,6 @@
 // The settings of a Distributor, fixed when it is made.
+ghost use mathlib.Core.Path.{_≡_};
+ghost use Rattle.distributor.specs.Banks.{explicit};
 
 // Which SPIs count as the guest's.
 pub enum GicV3SpiOwnership {
@@ -6,6 +8,17 @@ pub enum GicV3SpiOwnership {
     AllGuestOwned,
     // Those that the host has claimed.
     Explicit,
+}
+
+impl GicV3SpiOwnership {
+    pub fn is_explicit(self) -> bool
+        ensures { λ r. ⌜ r ≡ explicit self ⌝ }
+    {
+        match self {
+            GicV3SpiOwnership::AllGuestOwned => false,
+            GicV3SpiOwnership::Explicit => true,
+        }
+    }
 }
 
 pub struct ControllerConfig {

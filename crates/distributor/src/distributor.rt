@@ -1,13 +1,6 @@
 // The Distributor's state.
+use crate::bank::Slot;
 use crate::controller::ControllerConfig;
-use interrupt::interrupt::InterruptRecord;
-
-// One SPI: its record, whether the host has claimed it for the guest, and whether its route is fixed.
-pub struct Slot {
-    pub interrupt: InterruptRecord,
-    pub explicitly_owned: bool,
-    pub fixed_route: bool,
-}
 
 pub struct DistributorState {
     pub config: ControllerConfig,

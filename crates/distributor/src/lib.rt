@@ -1,4 +1,5 @@
 // The GICv3 Distributor: its registers, its table of SPIs, claims, routes and candidates.
+pub mod bank;
 pub mod controller;
 pub mod distributor;
 pub mod register;
