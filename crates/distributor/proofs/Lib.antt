@@ -1,3 +1,5 @@
 pub mod Digits
+pub mod Reading
 pub mod Rows
+pub mod Table
 pub mod Widths

@@ -228,6 +228,10 @@ operationValues (SetLevel high) r = []
 operationValues Pulse r = []
 operationValues Complete r = []
 
+-- the record of INTID i is deliverable
+abbrev pub deliverableAt : List Slot → ℕ → Bool
+deliverableAt slots i = deliverableIn (slotOf slots i .interrupt)
+
 module _ (d : DistributorState) where
   -- a host call on an SPI outside the table is refused 1
   abbrev pub onSpi : ℕ → (Slot → Answer) → Reply
@@ -256,7 +260,7 @@ module _ (d : DistributorState) where
 
   -- turned on, the switch lists every deliverable record, owned or not, by the base's rule
   abbrev pub switchCandidates : ℕ → List ℕ
-  switchCandidates v = cond (switchBit v) (passing (λ i. deliverableIn (slotOf (d .slots) i .interrupt)) 32 (size d)) []
+  switchCandidates v = cond (switchBit v) (passing (deliverableAt (d .slots)) 32 (size d)) []
 
   abbrev pub writeReply : Access → ℕ → List ℕ → Reply
   writeReply (Refused f) v list = record { answer = toldRefusal f; list = list }

@@ -1,7 +1,9 @@
 pub mod Registers
 pub mod Banks
+pub mod Places
 pub mod Identity
 pub mod Calls
+pub mod Loops
 pub mod Names
 pub mod Board
 pub mod IdentityLaws

@@ -136,11 +136,11 @@ decode-sound frame o w r e = go (legal frame o w) e
 
 -- ---- fields
 
-pow-pow : (a m : ℕ) → (2 ^ a) ^ m ≡ 2 ^ (a * m)
+pub pow-pow : (a m : ℕ) → (2 ^ a) ^ m ≡ 2 ^ (a * m)
 pow-pow a zero = rw (mul-zero a, pow-zero (2 ^ a))
 pow-pow a (suc m) = rw (pow-suc (2 ^ a) m, pow-pow a m, mul-suc a m, pow-add 2 (a * m) a)
 
-digit-fits : (p q t b : ℕ) → p < q → t < b → p * b + t < q * b
+pub digit-fits : (p q t b : ℕ) → p < q → t < b → p * b + t < q * b
 digit-fits p q t b h k = let e : suc p * b ≤ q * b = mul-le-mul-right b h in let f : suc p * b ≡ p * b + b = suc-mul p b in omega arith
 
 packed-fits : (b : Bank) (t : ℕ → ℕ) → ((i : ℕ) → t i < 2 ^ bitsOf b) → (lo m : ℕ) → packed b t lo m < (2 ^ bitsOf b) ^ m

@@ -11,7 +11,6 @@ use Rattle.theory.specs.Bools.{both}
 use Rattle.theory.specs.Places.{laid, passing}
 use Rattle.theory.specs.PlaceLaws.{length-laid, laid-past, passing-few, passing-most}
 use Rattle.interrupt.specs.Answer.{Answer, done, refused, toldRefusal, numberOf, carriedBy, within}
-use Rattle.interrupt.specs.Life.{deliverableIn}
 use Rattle.interrupt.specs.declared.error.Refusal.{Refusal}
 use Rattle.interrupt.specs.declared.error.Refusal.the-variants.{InvalidAccess, InvalidWidth, ShortList}
 use Rattle.distributor.specs.declared.controller.ControllerConfig.{ControllerConfig}
@@ -25,7 +24,7 @@ use Rattle.distributor.specs.declared.register.Access.the-variants.{To, 
 use Rattle.distributor.specs.declared.register.Direction.the-variants.{Reading, Writing}
 use Rattle.distributor.specs.Registers.{legal, lookup, map, decode}
 use Rattle.distributor.specs.Banks.{owned, inTable, lists, slotOf, reaches, candidate, bankCandidates, writeBeyond}
-use Rattle.distributor.specs.Calls.{Call, read, write, Reply, plain, size, switchBit, switchCandidates, listing, listingUnless, writeAccess, writeReply, reply}
+use Rattle.distributor.specs.Calls.{Call, read, write, Reply, plain, size, switchBit, deliverableAt, switchCandidates, listing, listingUnless, writeAccess, writeReply, reply}
 
 module _ (d : DistributorState) (offset : ℕ) (w : AccessWidth) where
   -- a read tests 3 first
@@ -83,11 +82,8 @@ module _ (d : DistributorState) (offset : ℕ) (w : AccessWidth) where
     switch-few : length (switchCandidates d v) ≤ size d
     switch-few = go (switchBit v)
       where
-        test : ℕ → Bool
-        test i = deliverableIn (slotOf (d .slots) i .interrupt)
-
-        go : (b : Bool) → length (cond b (passing test 32 (size d)) []) ≤ size d
-        go true = passing-most test 32 (size d)
+        go : (b : Bool) → length (cond b (passing (deliverableAt (d .slots)) 32 (size d)) []) ≤ size d
+        go true = passing-most (deliverableAt (d .slots)) 32 (size d)
         go false = omega arith
 
     kept-write : (a : Access) → Kept (writeReply d a v list)

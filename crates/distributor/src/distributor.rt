@@ -1,6 +1,19 @@
-// The Distributor's state.
+// The Distributor: its table of SPIs, and the loops over it.
 use crate::bank::Slot;
 use crate::controller::ControllerConfig;
+use crate::place::Place;
+use crate::place::in_table;
+use crate::register::Bank;
+ghost use mathlib.Core.Path.{_≡_};
+ghost use mathlib.Core.Bool.{Bool, true, false, cond, _&&_};
+ghost use mathlib.Core.List.{[], _∷_};
+ghost use Prim.Native.Nat.{_+_, _*_, _≤_, _<_};
+ghost use lib.ListN.{length, set};
+ghost use Rattle.theory.specs.Places.{mapAt, passing};
+ghost use Rattle.distributor.specs.Registers.{bitsOf};
+ghost use Rattle.distributor.specs.Banks.{explicit, bankValue, bankSlot, candidate, writeBeyond};
+ghost use Rattle.distributor.specs.Calls.{size, deliverableAt};
+ghost use Rattle.distributor.specs.Loops.{withSlots, Told, toldBeyond, lowest};
 
 pub struct DistributorState {
     pub config: ControllerConfig,
@@ -9,4 +22,68 @@ pub struct DistributorState {
     // How many SPIs there are: those of INTIDs 32 to 31 + spi_count, in the first places of the table.
     pub spi_count: u32,
     pub slots: [Slot; 988],
+}
+
+// The lowest INTID over which an access is refused, if there is one.
+pub enum Beyond {
+    Nothing,
+    At(u32),
+}
+
+// Where a write stands: the state, and how many candidates are listed.
+pub struct Listed {
+    pub state: DistributorState,
+    pub count: usize,
+}
+
+impl DistributorState {
+    // How many records the table has: never more than its places.
+    pub fn size(self) -> u32
+        ensures { λ r. ⌜ r ≡ size self ⌝ }
+    {
+        if self.spi_count < 988 {
+            self.spi_count
+        } else {
+            988
+        }
+    }
+
+    pub fn is_explicit(self) -> bool
+        ensures { λ r. ⌜ r ≡ explicit (self .config .«spi_ownership») ⌝ }
+    {
+        let config = self.config;
+        let ownership = config.spi_ownership;
+        ownership.is_explicit()
+    }
+}
+
+// The list gets one candidate more, or none.
+fn note(list: &mut [u32], count: usize, intid: u32, on: bool) -> usize
+    requires { ⌜ (on ≡ true → count < length (now list)) ⌝ }
+    ensures { λ r. ⌜ (now (list .exit) ≡ cond on (set (now (list .entry)) count intid) (now (list .entry))) × (r ≡ cond on (count + 1) count) ⌝ }
+{
+    if on {
+        list[count] = intid;
+        return count + 1;
+    }
+    count
+}
+
+// The m fields of a bank from INTID lo on, read from the highest down.
+pub fn read_fields(d: DistributorState, bank: Bank, lo: u32, m: u32) -> u64
+    requires { ⌜ (lo < 0x10000) × (m ≤ 64) × (bitsOf bank * m ≤ 64) ⌝ }
+    ensures { λ r. ⌜ r ≡ bankValue (d .config) (size d) bank lo m (d .slots) ⌝ }
+{
+    let n = d.size();
+    let explicit = d.is_explicit();
+    let mut value: u64 = 0;
+    let mut j = m;
+    while 0 < j {
+        j -= 1;
+        let inside = in_table(n, lo + j);
+        let p = Place::or_first(n, lo + j).index();
+        let s = d.slots[p];
+        value = bank.joined(value, s.showing(inside, explicit, bank));
+    }
+    value
 }

@@ -2,4 +2,5 @@
 pub mod bank;
 pub mod controller;
 pub mod distributor;
+pub mod place;
 pub mod register;
