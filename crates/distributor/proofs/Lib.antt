@@ -1,5 +1,6 @@
 pub mod Digits
+pub mod Listing
 pub mod Reading
 pub mod Rows
-pub mod Table
 pub mod Widths
+pub mod Writing

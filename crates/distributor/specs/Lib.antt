@@ -9,4 +9,5 @@ pub mod Board
 pub mod IdentityLaws
 pub mod MapLaws
 pub mod ReadLaws
+pub mod BankLaws
 pub mod Replies

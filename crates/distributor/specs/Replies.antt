@@ -4,13 +4,12 @@ use mathlib.Core.Path.{_≡_, refl, sym, ap, _∙_}
 use mathlib.Core.Bool.{Bool, true, false, _&&_, cond}
 use mathlib.Core.List.{List, [], _∷_}
 use native.Mathlib.Omega.{arith}
-use borrow.Author.Tests.{leb-true, ltb-true, lt-ltb, le-ltb}
-use lib.Dec.{leb, ltb}
+use borrow.Author.Tests.{lt-ltb, le-ltb}
+use lib.Dec.{ltb}
 use lib.ListN.{length, getD}
-use Rattle.theory.specs.Bools.{both}
 use Rattle.theory.specs.Places.{laid, passing}
 use Rattle.theory.specs.PlaceLaws.{length-laid, laid-past, passing-few, passing-most}
-use Rattle.interrupt.specs.Answer.{Answer, done, refused, toldRefusal, numberOf, carriedBy, within}
+use Rattle.interrupt.specs.Answer.{Answer, done, refused, toldRefusal, numberOf, carriedBy}
 use Rattle.interrupt.specs.declared.error.Refusal.{Refusal}
 use Rattle.interrupt.specs.declared.error.Refusal.the-variants.{InvalidAccess, InvalidWidth, ShortList}
 use Rattle.distributor.specs.declared.controller.ControllerConfig.{ControllerConfig}
@@ -23,7 +22,8 @@ use Rattle.distributor.specs.declared.register.Access.{Access}
 use Rattle.distributor.specs.declared.register.Access.the-variants.{To, Refused}
 use Rattle.distributor.specs.declared.register.Direction.the-variants.{Reading, Writing}
 use Rattle.distributor.specs.Registers.{legal, lookup, map, decode}
-use Rattle.distributor.specs.Banks.{owned, inTable, lists, slotOf, reaches, candidate, bankCandidates, writeBeyond}
+use Rattle.distributor.specs.Banks.{candidate, bankCandidates, writeBeyond}
+use Rattle.distributor.specs.BankLaws.{candidate-in}
 use Rattle.distributor.specs.Calls.{Call, read, write, Reply, plain, size, switchBit, deliverableAt, switchCandidates, listing, listingUnless, writeAccess, writeReply, reply}
 
 module _ (d : DistributorState) (offset : ℕ) (w : AccessWidth) where
@@ -59,24 +59,9 @@ module _ (d : DistributorState) (offset : ℕ) (w : AccessWidth) where
       turnedDown : (n : ℕ) (c : List ℕ) → Kept (record { answer = refused n c; list = list })
       listed : (candidates : List ℕ) → length candidates ≤ size d → Kept (record { answer = done (length candidates ∷ []); list = laid candidates list })
 
-    in-table : (n i : ℕ) → inTable n i ≡ true → (32 ≤ i) × (i < 32 + n)
-    in-table n i e = let (low, high) = both (leb 32 i) _ e in (leb-true _ _ low, ltb-true _ _ high)
-
-    -- a candidate is in the table
-    candidate-in : (b : Bank) (lo m i : ℕ) → candidate (d .config) (size d) b v lo m (d .slots) i ≡ true → (32 ≤ i) × (i < 32 + size d)
-    candidate-in b lo m i e =
-        let c = d .config in
-        let n = size d in
-        let s = slotOf (d .slots) i in
-        let owning = lists b && reaches c n b v lo m i && owned c s in
-        let touching = lists b && reaches c n b v lo m i in
-        let covering = within lo (lo + m) i && inTable n i in
-        let reached : reaches c n b v lo m i ≡ true = both (lists b) _ (both touching _ (both owning _ e .0) .0) .1 in
-        in-table n i (both (within lo (lo + m) i) _ (both covering _ reached .0) .1)
-
     bank-few : (b : Bank) (lo m : ℕ) → length (bankCandidates (d .config) (size d) b v lo m (d .slots)) ≤ size d
     bank-few b lo m =
-        let few = passing-few (candidate (d .config) (size d) b v lo m (d .slots)) 32 (32 + size d) (candidate-in b lo m) lo m in
+        let few = passing-few (candidate (d .config) (size d) b v lo m (d .slots)) 32 (32 + size d) (candidate-in (d .config) (size d) b v lo m (d .slots)) lo m in
         omega arith
 
     switch-few : length (switchCandidates d v) ≤ size d

@@ -87,3 +87,41 @@ pub fn read_fields(d: DistributorState, bank: Bank, lo: u32, m: u32) -> u64
     }
     value
 }
+
+// Writes the m fields of a value to a bank from INTID lo on, the lowest first. `tells` says whether candidates are listed.
+pub fn write_fields(
+    mut d: DistributorState,
+    bank: Bank,
+    lo: u32,
+    m: u32,
+    value: u64,
+    tells: bool,
+    list: &mut [u32],
+) -> Listed
+    requires { ⌜ (lo < 0x10000) × (m ≤ 64) × (size d ≤ length (now list)) ⌝ }
+    ensures { λ r. ⌜ (r .state ≡ withSlots d (mapAt (λ p. bankSlot (d .config) (size d) bank value lo m (32 + p)) (d .slots))) × Told (passing (λ i. tells && candidate (d .config) (size d) bank value lo m (d .slots) i) lo m) (now (list .entry)) (now (list .exit)) (r .count) ⌝ }
+{
+    let n = d.size();
+    let explicit = d.is_explicit();
+    let lists = tells & bank.lists();
+    let mut v = value;
+    let mut count: usize = 0;
+    let mut j: u32 = 0;
+    while j < m {
+        let i = lo + j;
+        let f = bank.lowest(v);
+        let p = Place::or_first(n, i).index();
+        let old = d.slots[p];
+        let touched = in_table(n, i) & bank.acts(f) & old.owned(explicit);
+        let new = old.touched(touched, bank, f);
+        d.slots[p] = new;
+        let interrupt = new.interrupt;
+        count = note(list, count, i, lists & touched & interrupt.deliverable());
+        v = bank.above(v);
+        j += 1;
+    }
+    Listed {
+        state: d,
+        count: count,
+    }
+}

@@ -12,7 +12,7 @@ use Rattle.distributor.proofs.distributor.read_fields.Statement.{statem
 use Rattle.distributor.proofs.distributor.read_fields.Tie as tie
 
 abbrev Inv-loop : tie.InvT-loop
-Inv-loop bank lo m d n explicit value₀ j₀ value j = 
+Inv-loop bank lo m d n explicit value₀ j₀ value j =
     (j ≤ m) × (value ≡ packed bank (showing (d .config) (size d) bank (d .slots)) (lo + j) (m - j)) × (value < (2 ^ bitsOf bank) ^ (m - j))
 
 abbrev μ-loop : tie.MeasureT-loop
@@ -80,10 +80,10 @@ loop-again c =
     let a = s .args in
     let f = showing (a .t1 .config) (size (a .t1)) (a .bank) (a .t1 .slots) in
     let g = shows (a .t1 .config) (size (a .t1)) (a .bank) (a .t1 .slots) (a .lo + (l .j - 1)) (t .in-table .result) (i .before .before .is-explicit .result) (x .index .result) (v .showing .result)
-        (t .in-table .ensures ∙ ap (λ (n : ℕ). inTable n (a .lo + (l .j - 1))) (i .before .before .before .size .ensures))
-        (i .before .before .is-explicit .ensures)
-        (x .index .ensures ∙ x .before .or-first .ensures .0 ∙ ap (λ (n : ℕ). cond (inTable n (a .lo + (l .j - 1))) (a .lo + (l .j - 1) - 32) 0) (i .before .before .before .size .ensures))
-        (v .showing .ensures .0) in (
+    (t .in-table .ensures ∙ ap (λ (n : ℕ). inTable n (a .lo + (l .j - 1))) (i .before .before .before .size .ensures))
+    (i .before .before .is-explicit .ensures)
+    (x .index .ensures ∙ x .before .or-first .ensures .0 ∙ ap (λ (n : ℕ). cond (inTable n (a .lo + (l .j - 1))) (a .lo + (l .j - 1) - 32) 0) (i .before .before .before .size .ensures))
+    (v .showing .ensures .0) in (
       omega arith,
       c .joined .ensures ∙ packed-more (a .bank) f (a .lo) (l .j) (a .m) (l .value) (v .showing .result) (i .loop-test .taken) (l .inv .0) (l .inv .1) g,
       rw (c .joined .ensures) (packed-below (a .bank) f (a .lo) (l .j) (a .m) (l .value) (v .showing .result) (i .loop-test .taken) (l .inv .0) (l .inv .2) (v .showing .ensures .1)),

@@ -1,6 +1,6 @@
 use mathlib.Core.Path.{sym, _∙_}
 use native.Mathlib.Omega.{arith}
-use Rattle.distributor.proofs.Table.{in-range}
+use Rattle.distributor.specs.BankLaws.{in-range}
 use borrow.Author.Needs.{needs}
 use Rattle.distributor.proofs.place.Place.new.Statement.{statement}
 use Rattle.distributor.proofs.place.Place.new.Tie as tie
