@@ -22,6 +22,8 @@ struct Register {
     writes: Kinds,
     listed: u64,
     widths: [u64; WIDTHS.len()],
+    /// The offsets at which an access was done.
+    offsets: BTreeSet<u64>,
     /// Accesses at the bank's first offset, at its last and one past it.
     ends: [u64; 3],
 }
@@ -94,6 +96,9 @@ impl Coverage {
         kinds[kind] += 1;
         register.listed += u64::from(!step.answer.candidates.is_empty());
         register.widths[width.ilog2() as usize] += 1;
+        if kind == 0 {
+            register.offsets.insert(offset);
+        }
         for (bank, register) in BANKS.iter().zip(&mut self.registers) {
             let ends = [bank.start, bank.last(), bank.end];
             for (end, times) in ends.into_iter().zip(&mut register.ends) {
@@ -133,7 +138,7 @@ impl Coverage {
     fn write_registers(&self, f: &mut Formatter) -> fmt::Result {
         let heads = [
             "reads", "ref 1", "ref 3", "ref 4", "writes", "ref 1", "ref 3", "ref 4", "ref 5",
-            "listed", "width 1", "2", "4", "8", "first", "last", "past",
+            "listed", "width 1", "2", "4", "8", "first", "last", "past", "offsets",
         ];
         writeln!(f, "\n{:12}{}", "register", cells(heads))?;
         let names = BANKS.iter().map(|bank| bank.name).chain(["elsewhere"]);
@@ -143,7 +148,8 @@ impl Coverage {
             let reads = cells([read, read_1, read_3, read_4]);
             let writes = cells([write, write_1, write_3, write_4, write_5, register.listed]);
             let (widths, ends) = (cells(register.widths), cells(register.ends));
-            writeln!(f, "{name:12}{reads}{writes}{widths}{ends}")?;
+            let offsets = register.offsets.len();
+            writeln!(f, "{name:12}{reads}{writes}{widths}{ends}{offsets:>8}")?;
         }
         Ok(())
     }
@@ -175,7 +181,10 @@ impl Coverage {
                 .difference(met)
                 .map(|flags| format!("{flags:x}"))
                 .collect();
-            never.join(" ")
+            match never.len() {
+                0 => "none".into(),
+                _ => never.join(" "),
+            }
         };
         writeln!(
             f,
@@ -194,4 +203,39 @@ impl Coverage {
 
 fn cells<T: Display, const N: usize>(row: [T; N]) -> String {
     row.iter().map(|cell| format!("{cell:>8}")).collect()
+}
+
+#[cfg(test)]
+mod tests {
+    use super::*;
+    use crate::list;
+
+    #[test]
+    fn a_run_meets_every_combination_of_life_flags() {
+        let mut coverage = Coverage::default();
+        for step in list::steps(Oracle::default(), 3, 240, 450) {
+            coverage.note(&step);
+        }
+        let text = coverage.to_string();
+        assert!(
+            text.contains("\nlife flags: 96 met of 96 reachable\n"),
+            "{text}"
+        );
+        assert!(text.contains("\nmet but not reachable: none\n"), "{text}");
+        for (&op, kinds) in &coverage.calls {
+            assert!(kinds[0] > 0, "{op:?} was never done");
+        }
+        for (bank, register) in BANKS.iter().zip(&coverage.registers) {
+            assert!(
+                register.ends.iter().all(|&times| times > 0),
+                "{}",
+                bank.name
+            );
+            assert!(
+                register.widths.iter().all(|&times| times > 0),
+                "{}",
+                bank.name
+            );
+        }
+    }
 }

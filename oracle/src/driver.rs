@@ -343,3 +343,119 @@ fn byte(number: u64) -> u8 {
 fn word(number: u64) -> u32 {
     number.try_into().expect("an argument over 32 bits")
 }
+
+#[cfg(test)]
+mod tests {
+    use std::panic;
+
+    use super::*;
+    use crate::reach;
+
+    /// A record's slot by the text that `Debug` gives of it.
+    fn slot_by_text(record: &InterruptRecord) -> u64 {
+        let text = format!("{record:?}");
+        let field = |name: &str| {
+            let (_, rest) = text.split_once(&format!(" {name}: ")).unwrap();
+            rest.to_string()
+        };
+        let number = |text: &str| {
+            let digits: String = text.chars().take_while(char::is_ascii_digit).collect();
+            digits.parse::<u64>().unwrap()
+        };
+        let mut slot = number(&field("priority")["Priority(".len()..]) << 16;
+        for (flag, name, set) in [
+            (ENABLED, "enabled", "true"),
+            (PENDING, "pending", "true"),
+            (ACTIVE, "active", "true"),
+            (INFLIGHT, "inflight", "true"),
+            (REDELIVERY, "redelivery_pending", "true"),
+            (LINE, "line_asserted", "true"),
+            (EDGE, "trigger", "Edge"),
+            (ROUTED, "route", "Some"),
+            (MASKED, "cpu_target_mask", "Some"),
+        ] {
+            if field(name).starts_with(set) {
+                slot |= flag;
+            }
+        }
+        if slot & MASKED != 0 {
+            slot |= number(&field("cpu_target_mask")["Some(".len()..]) << 24;
+        }
+        if slot & ROUTED != 0 {
+            for (level, name) in ["aff0", "aff1", "aff2", "aff3"].iter().enumerate() {
+                slot |= number(&field(name)) << (32 + 8 * level);
+            }
+        }
+        slot
+    }
+
+    fn run(oracle: &mut Oracle, op: Op, args: &[u64]) -> Answer {
+        oracle.run(&Call::new(op, args))
+    }
+
+    fn slots(oracle: &mut Oracle) -> Vec<u64> {
+        let mut slots = Vec::new();
+        oracle.look(&mut slots);
+        slots
+    }
+
+    #[test]
+    fn a_slot_is_what_debug_shows() {
+        let mut oracle = Oracle::default();
+        let ways = reach::combinations(&mut oracle);
+        assert!(ways.len() > 500);
+        for (flags, way) in ways {
+            for call in &way {
+                oracle.run(call);
+            }
+            run(&mut oracle, Op::SetPriority, &[32, 0xa5]);
+            let slot = slots(&mut oracle)[0];
+            let record = oracle.record(32).unwrap();
+            assert_eq!(slot & !(CLAIMED | FIXED), slot_by_text(record));
+            assert_eq!(slot & reach::FLAGS, flags);
+        }
+    }
+
+    #[test]
+    fn routes_and_masks_are_seen_in_their_bytes() {
+        let mut oracle = Oracle::default();
+        run(&mut oracle, Op::Create, &[2, 0, 0x1_0000, 0]);
+        run(&mut oracle, Op::SetRoute, &[32, 0x44_ff33_2211]);
+        run(&mut oracle, Op::SetMask, &[33, 0x5a]);
+        let expected = [0x4433_2211_0080_0200, 0x5a80_0400];
+        assert_eq!(slots(&mut oracle), expected);
+        for (raw, slot) in [32, 33].into_iter().zip(expected) {
+            assert_eq!(slot_by_text(oracle.record(raw).unwrap()), slot);
+        }
+    }
+
+    #[test]
+    fn claims_and_fixed_marks_are_seen_and_left_alone() {
+        for ownership in [0, 1] {
+            let mut oracle = Oracle::default();
+            run(&mut oracle, Op::Create, &[40, ownership, 0, 0]);
+            run(&mut oracle, Op::ClaimSoftware, &[33]);
+            run(&mut oracle, Op::SetMask, &[33, 7]);
+            run(&mut oracle, Op::ClaimPhysical, &[64, 1]);
+            let seen = slots(&mut oracle);
+            let marks = |place: usize| seen[place] & (CLAIMED | FIXED);
+            assert_eq!([0, 1, 32].map(marks), [0, CLAIMED, CLAIMED | FIXED]);
+            assert_eq!(slots(&mut oracle), seen);
+            run(&mut oracle, Op::Release, &[64]);
+            assert_eq!(slots(&mut oracle)[32] & (CLAIMED | FIXED), 0);
+        }
+    }
+
+    #[test]
+    fn the_rust_stops_at_a_target_mask_outside_the_table() {
+        let mut oracle = Oracle::default();
+        run(&mut oracle, Op::Create, &[1, 0, 0x1_0000, 0]);
+        let answer = run(&mut oracle, Op::SetMask, &[33, 1]);
+        assert_eq!((answer.kind, answer.payload), (1, 33));
+        let stopped = panic::catch_unwind(move || {
+            let outside = SpiId::new(33).unwrap();
+            oracle.state().set_cpu_target_mask(outside, 1).is_ok()
+        });
+        assert!(stopped.is_err());
+    }
+}

@@ -17,6 +17,8 @@ use crate::{
 const COUNTS: [u64; 11] = [0, 1, 31, 32, 33, 40, 63, 64, 256, 987, 988];
 const REFUSED_COUNTS: [u64; 4] = [989, 990, 1020, 65535];
 const LPI_LIMITS: [u64; 8] = [0, 1, 8192, 65534, 65535, 65536, 0xff_ffff, 0xffff_ffff];
+const CTLR: u64 = BANKS[0].start;
+const TYPER: u64 = BANKS[1].start;
 const WHOLE_FRAME: u64 = 0x1_0000;
 const ODD_FRAMES: [u64; 10] = [
     0,
@@ -58,11 +60,11 @@ const LONG: [(u64, Plan); 9] = [
     (6, Sequence::host_calls),
     (5, Sequence::life),
     (6, Sequence::combination),
-    (4, Sequence::claims),
-    (18, Sequence::guest),
-    (6, Sequence::table_end),
+    (5, Sequence::claims),
+    (36, Sequence::guest),
+    (12, Sequence::table_end),
     (3, Sequence::switch),
-    (8, Sequence::edge),
+    (12, Sequence::edge),
     (3, Sequence::identifier),
 ];
 const FRAME: [(u64, Plan); 2] = [(5, Sequence::edge), (1, Sequence::guest)];
@@ -154,7 +156,7 @@ impl Sequence {
         } else {
             sequence.left = SHORT;
             sequence.plans = &FRAME;
-            sequence.frame = sequence.odd_frame(round);
+            sequence.frame = sequence.odd_frame(round - round / 8);
             let count = sequence.random.below(72);
             sequence.create(count, round % 2);
         }
@@ -189,10 +191,10 @@ impl Sequence {
     }
 
     /// A frame that ends at or near a bank's start or end, each in turn.
-    fn odd_frame(&mut self, round: u64) -> u64 {
+    fn odd_frame(&mut self, turn: u64) -> u64 {
         let edges = BANKS.iter().flat_map(|bank| [bank.start, bank.end]);
         let edges: Vec<u64> = ODD_FRAMES.into_iter().chain(edges).collect();
-        let at = round as usize % (2 * edges.len());
+        let at = turn as usize % (2 * edges.len());
         if at < edges.len() {
             return edges[at];
         }
@@ -211,6 +213,9 @@ impl Sequence {
         let settings = self.random.below(16) << 1 | ownership;
         let limit = *self.random.pick(&LPI_LIMITS);
         self.plan(Op::Create, &[count, settings, self.frame, limit]);
+        if count < 989 {
+            self.plan(Op::Read, &[TYPER, 4]);
+        }
     }
 
     fn plan(&mut self, op: Op, args: &[u64]) {
@@ -289,7 +294,12 @@ impl Sequence {
     }
 
     fn guest(&mut self) {
-        let intid = self.intid();
+        let anywhere = self.random.chance(15);
+        let intid = if anywhere {
+            self.random.below(1024)
+        } else {
+            self.intid()
+        };
         let hot = self.hot.clone();
         self.guest_at(intid, &hot);
     }
@@ -314,15 +324,14 @@ impl Sequence {
                 self.host_call(raise, intid);
             }
         }
-        let ctlr = &BANKS[0];
-        self.access(Op::Write, ctlr.start, 4, &[]);
+        self.access(Op::Write, CTLR, 4, &[]);
         match self.random.below(4) {
             0 => self.plan(Op::Switch, &[]),
             1 => {
                 let on = self.random.below(2);
                 self.plan(Op::Rollback, &[on]);
             }
-            _ => self.access(Op::Read, ctlr.start, 4, &[]),
+            _ => self.plan(Op::Read, &[CTLR, 4]),
         }
     }
 
@@ -370,19 +379,23 @@ impl Sequence {
         self.plan(op, &args);
     }
 
-    /// An access to one of the banks that are by INTID, where it covers `intid`.
-    /// A write is aimed at `aims`.
+    /// An access to a bank, where it covers `intid` if the bank is by INTID. A
+    /// write is aimed at `aims`.
     fn guest_at(&mut self, intid: u64, aims: &[u64]) {
+        let by_intid = self.random.chance(85);
         let bank = loop {
             let bank = self.random.pick(&BANKS);
-            if bank.bits > 0 {
+            if by_intid == (bank.bits > 0) {
                 break bank;
             }
         };
         let made_for = !self.random.chance(6);
         let widths = if made_for { bank.widths } else { &WIDTHS };
         let width = *self.random.pick(widths);
-        let mut offset = bank.offset_of(intid);
+        let mut offset = match bank.bits {
+            0 => bank.start + self.random.below(bank.end - bank.start),
+            _ => bank.offset_of(intid),
+        };
         if self.random.chance(96) {
             offset -= offset % width;
         }
