@@ -63,6 +63,8 @@ impl Machine for Oracle {
 }
 
 impl Oracle {
+    /// A row a call. `done` is for those without a value.
+    #[allow(clippy::unit_arg)]
     fn answer(&mut self, call: &Call) -> VgicResult<Answer> {
         let [a, b, c, d] = call.args;
         let payload = match call.op {

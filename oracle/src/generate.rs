@@ -14,8 +14,9 @@ use crate::{
     registers::{BANKS, WIDTHS},
 };
 
-const COUNTS: [u64; 11] = [0, 1, 31, 32, 33, 40, 63, 64, 256, 987, 988];
-const REFUSED_COUNTS: [u64; 4] = [989, 990, 1020, 65535];
+const CAPACITY: u64 = 988;
+const COUNTS: [u64; 11] = [0, 1, 31, 32, 33, 40, 63, 64, 256, 987, CAPACITY];
+const REFUSED_COUNTS: [u64; 4] = [CAPACITY + 1, 990, 1020, 65535];
 const LPI_LIMITS: [u64; 8] = [0, 1, 8192, 65534, 65535, 65536, 0xff_ffff, 0xffff_ffff];
 const CTLR: u64 = BANKS[0].start;
 const TYPER: u64 = BANKS[1].start;
@@ -184,7 +185,7 @@ impl Sequence {
 
     fn any_count(&mut self) -> u64 {
         match self.random.below(10) {
-            0 => self.random.below(989),
+            0 => self.random.below(CAPACITY + 1),
             1..=2 => *self.random.pick(&COUNTS),
             _ => self.random.below(100),
         }
@@ -204,17 +205,18 @@ impl Sequence {
 
     fn create(&mut self, count: u64, ownership: u64) {
         self.count = count;
-        if count > 0 && count < 989 {
+        let settings = self.random.below(16) << 1 | ownership;
+        let limit = *self.random.pick(&LPI_LIMITS);
+        self.plan(Op::Create, &[count, settings, self.frame, limit]);
+        if count > CAPACITY {
+            return;
+        }
+        self.plan(Op::Read, &[TYPER, 4]);
+        if count > 0 {
             let near = 32 + self.random.below(count);
             let far = [(); 2].map(|()| 32 + self.random.below(count));
             self.hot = vec![near, near + 1, 31 + count, far[0], far[1]];
             self.hot.retain(|&intid| intid < 32 + count);
-        }
-        let settings = self.random.below(16) << 1 | ownership;
-        let limit = *self.random.pick(&LPI_LIMITS);
-        self.plan(Op::Create, &[count, settings, self.frame, limit]);
-        if count < 989 {
-            self.plan(Op::Read, &[TYPER, 4]);
         }
     }
 
@@ -435,31 +437,26 @@ impl Sequence {
     fn value(&mut self, offset: u64, aims: &[u64]) -> u64 {
         let bank = BANKS.iter().find(|bank| bank.holds(offset));
         let any = self.random.next();
-        match (self.random.below(24), bank.map_or(0, |bank| bank.bits)) {
+        match (self.random.below(24), bank.map(|bank| bank.bits)) {
             (0, _) => u64::MAX,
             (1, _) => 0,
             (2, _) => any,
             (3, _) => 1 << (any % 64),
             (4, _) => any & self.random.next() & self.random.next() & self.random.next(),
-            (_, bits @ (1 | 2)) => {
-                let bank = bank.unwrap();
-                let mut value = any
-                    & if bits == 1 {
-                        !0xffff_ffff
-                    } else {
-                        !0xaaaa_aaaa
-                    };
+            (_, Some(bits @ (1 | 2))) => {
+                let counting = if bits == 1 { 0xffff_ffff } else { 0xaaaa_aaaa };
+                let mut value = any & !counting;
                 for &intid in aims {
-                    let first = bank.offset_of(intid) & !3;
-                    if first == offset && self.random.chance(60) {
+                    let word = bank.map(|bank| bank.offset_of(intid) & !3);
+                    if word == Some(offset) && self.random.chance(60) {
                         value |= bits << (intid * bits % 32);
                     }
                 }
                 value
             }
-            (_, 64) => self.argument(Arg::Affinity),
-            (_, 8) => any,
-            _ => any & 3 | (any >> 3 & 1) * any,
+            (_, Some(64)) => self.argument(Arg::Affinity),
+            (_, Some(0)) if any & 8 == 0 => any & 3,
+            _ => any,
         }
     }
 

@@ -3,7 +3,7 @@
 //! The search is over every host call on the one SPI of a table. Guest writes
 //! do to a record only what some host call does, so they add nothing.
 
-use std::collections::{BTreeMap, VecDeque};
+use std::collections::{BTreeMap, VecDeque, btree_map::Entry};
 
 use crate::{
     calls::{Call, Op},
@@ -33,9 +33,9 @@ pub fn combinations(machine: &mut impl Machine) -> BTreeMap<u64, Vec<Call>> {
         }
         machine.look(&mut slots);
         let flags = slots[0] & FLAGS;
-        if !found.contains_key(&flags) {
+        if let Entry::Vacant(unknown) = found.entry(flags) {
             ways.extend(calls.iter().map(|&call| [&way[..], &[call]].concat()));
-            found.insert(flags, way);
+            unknown.insert(way);
         }
     }
     found
