@@ -11,15 +11,13 @@ use std::collections::VecDeque;
 use crate::{
     calls::{Arg, Call, Op},
     machine::{ACTIVE, EDGE, ENABLED, INFLIGHT, LINE, PENDING, REDELIVERY},
-    registers::{BANKS, WIDTHS},
+    registers::{BANKS, Bank, CTLR, ICFGR, IPRIORITYR, TYPER, WIDTHS},
 };
 
 const CAPACITY: u64 = 988;
 const COUNTS: [u64; 11] = [0, 1, 31, 32, 33, 40, 63, 64, 256, 987, CAPACITY];
 const REFUSED_COUNTS: [u64; 4] = [CAPACITY + 1, 990, 1020, 65535];
 const LPI_LIMITS: [u64; 8] = [0, 1, 8192, 65534, 65535, 65536, 0xff_ffff, 0xffff_ffff];
-const CTLR: u64 = BANKS[0].start;
-const TYPER: u64 = BANKS[1].start;
 const WHOLE_FRAME: u64 = 0x1_0000;
 const ODD_FRAMES: [u64; 10] = [
     0,
@@ -32,6 +30,18 @@ const ODD_FRAMES: [u64; 10] = [
     1 << 63,
     u64::MAX - 8,
     u64::MAX,
+];
+/// Small distances up and, wrapping, down.
+const NEAR: [u64; 9] = [
+    0,
+    1,
+    2,
+    4,
+    8,
+    u64::MAX,
+    u64::MAX - 1,
+    u64::MAX - 3,
+    u64::MAX - 7,
 ];
 /// The ends of the ranges of identifiers.
 const NUMBERS: [u64; 14] = [
@@ -52,23 +62,26 @@ const NUMBERS: [u64; 14] = [
 ];
 const BYTES: [u64; 10] = [0, 1, 0xf, 0x10, 0x1f, 0x20, 0x7f, 0x80, 0xfe, 0xff];
 const AFFINITIES: [u64; 6] = [0, 1, 0x1_8002_0304, 0xff_00ff_ffff, 1 << 31, u64::MAX];
-const SHORT: usize = 14;
+/// How many calls the short sequences have.
+const FRAME_CALLS: usize = 2 + NEAR.len() * WIDTHS.len();
+const REFUSED_CALLS: usize = 12;
 
 type Plan = fn(&mut Sequence);
 
 /// The plans of a long sequence, each with its weight.
-const LONG: [(u64, Plan); 9] = [
+const LONG: [(u64, Plan); 10] = [
     (6, Sequence::host_calls),
     (5, Sequence::life),
-    (6, Sequence::combination),
+    (9, Sequence::combination),
     (5, Sequence::claims),
     (36, Sequence::guest),
     (12, Sequence::table_end),
     (3, Sequence::switch),
-    (12, Sequence::edge),
+    (18, Sequence::bank_edge),
+    (4, Sequence::far_end),
     (3, Sequence::identifier),
 ];
-const FRAME: [(u64, Plan); 2] = [(5, Sequence::edge), (1, Sequence::guest)];
+const FRAME: [(u64, Plan); 1] = [(1, Sequence::frame_end)];
 const REFUSED: [(u64, Plan); 1] = [(1, Sequence::identifier)];
 
 /// Splitmix64.
@@ -117,6 +130,8 @@ pub struct Sequence {
     frame: u64,
     /// The INTIDs that get most of the calls, all in the table.
     hot: Vec<u64>,
+    /// How far `bank_edge` has come; each long sequence starts further on.
+    turn: usize,
 }
 
 impl Iterator for Sequence {
@@ -145,17 +160,18 @@ impl Sequence {
             count: 0,
             frame: WHOLE_FRAME,
             hot: Vec::new(),
+            turn: 0,
         };
         let round = index / 2;
         if index.is_multiple_of(2) {
             sequence.long(round);
         } else if round % 8 == 7 {
-            sequence.left = SHORT;
+            sequence.left = REFUSED_CALLS;
             sequence.plans = &REFUSED;
             let count = sequence.random.pick(&REFUSED_COUNTS);
             sequence.create(*count, round % 2);
         } else {
-            sequence.left = SHORT;
+            sequence.left = FRAME_CALLS;
             sequence.plans = &FRAME;
             sequence.frame = sequence.odd_frame(round - round / 8);
             let count = sequence.random.below(72);
@@ -164,7 +180,8 @@ impl Sequence {
         sequence
     }
 
-    /// The first rounds take each of `COUNTS` in either ownership mode.
+    /// The first rounds take each of `COUNTS` in either ownership mode. Each
+    /// begins with some claims and with accesses across the table's end.
     fn long(&mut self, round: u64) {
         let (count, ownership) = match COUNTS.get(round as usize / 2) {
             Some(&count) => (count, round % 2),
@@ -173,12 +190,19 @@ impl Sequence {
         if self.random.chance(8) {
             self.frame = *self.random.pick(&[0x7000, 0x8000, 0xfffc, u64::MAX]);
         }
+        self.turn = 30 * round as usize;
         self.create(count, ownership);
         let claimed = if ownership == 1 { 75 } else { 25 };
         for intid in self.hot.clone() {
             if self.random.chance(claimed) {
                 let op = *self.random.pick(&[Op::ClaimSoftware, Op::ClaimPhysical]);
                 self.host_call(op, intid);
+            }
+        }
+        for op in [Op::Read, Op::Write] {
+            for (bank, width) in [(IPRIORITYR, 8), (ICFGR, 4)] {
+                let last = bank.offset_of(31 + count);
+                self.access(op, last - last % width, width, &[]);
             }
         }
     }
@@ -199,8 +223,7 @@ impl Sequence {
         if at < edges.len() {
             return edges[at];
         }
-        let near = [1, 2, 4, 8, u64::MAX, u64::MAX - 1, u64::MAX - 3];
-        edges[at - edges.len()].wrapping_add(*self.random.pick(&near))
+        edges[at - edges.len()].wrapping_add(*self.random.pick(&NEAR))
     }
 
     fn create(&mut self, count: u64, ownership: u64) {
@@ -211,7 +234,7 @@ impl Sequence {
         if count > CAPACITY {
             return;
         }
-        self.plan(Op::Read, &[TYPER, 4]);
+        self.plan(Op::Read, &[TYPER.start, 4]);
         if count > 0 {
             let near = 32 + self.random.below(count);
             let far = [(); 2].map(|()| 32 + self.random.below(count));
@@ -262,7 +285,7 @@ impl Sequence {
             self.plan(Op::Pulse, &[intid]);
         }
         self.plan(Op::SetState, &[intid, bit(PENDING) + 2 * bit(ACTIVE)]);
-        for _ in 0..1 + self.random.below(2) {
+        for _ in 0..1 + self.random.below(3) {
             if self.random.chance(25) {
                 self.guest_at(intid, &[intid]);
             } else {
@@ -296,7 +319,7 @@ impl Sequence {
     }
 
     fn guest(&mut self) {
-        let anywhere = self.random.chance(15);
+        let anywhere = self.random.chance(25);
         let intid = if anywhere {
             self.random.below(1024)
         } else {
@@ -314,7 +337,11 @@ impl Sequence {
         let mut aims = self.hot.clone();
         aims.extend([past - 1, past, past + 1]);
         let near = past + self.random.below(10) - 8;
-        self.guest_at(near, &aims);
+        match self.random.below(3) {
+            0 => self.bank_at(&IPRIORITYR, near, &aims),
+            1 => self.bank_at(&ICFGR, near, &aims),
+            _ => self.guest_at(near, &aims),
+        }
     }
 
     /// Makes some SPIs deliverable and turns the switch.
@@ -326,32 +353,55 @@ impl Sequence {
                 self.host_call(raise, intid);
             }
         }
-        self.access(Op::Write, CTLR, 4, &[]);
+        self.access(Op::Write, CTLR.start, 4, &[]);
         match self.random.below(4) {
             0 => self.plan(Op::Switch, &[]),
             1 => {
                 let on = self.random.below(2);
                 self.plan(Op::Rollback, &[on]);
             }
-            _ => self.plan(Op::Read, &[CTLR, 4]),
+            _ => self.plan(Op::Read, &[CTLR.start, 4]),
         }
     }
 
-    /// Any width at or near the ends of a bank, of the frame, or of 2^64.
-    fn edge(&mut self) {
-        let bank = self.random.pick(&BANKS);
-        let edges = [bank.start, bank.last(), bank.end, self.frame, 0];
-        let mut offset = *self.random.pick(&edges);
-        if self.random.chance(60) {
-            offset = offset.wrapping_add(self.random.below(24)).wrapping_sub(12);
+    /// Reads and writes of any width at or near a bank's first offset, its last
+    /// and the one past it, each in turn.
+    fn bank_edge(&mut self) {
+        // Any factor prime to the number of choices scatters them.
+        let mut turn = self.turn * 1009;
+        self.turn += 1;
+        let mut choose = |choices: usize| {
+            let choice = turn % choices;
+            turn /= choices;
+            choice
+        };
+        let bank = &BANKS[choose(BANKS.len())];
+        let edge = [bank.start, bank.last(), bank.end][choose(3)];
+        let offset = edge.wrapping_add(NEAR[choose(NEAR.len())]);
+        let width = WIDTHS[choose(WIDTHS.len())];
+        let op = [Op::Read, Op::Write][choose(2)];
+        let value = self.value(offset, &[]);
+        match op {
+            Op::Read => self.plan(op, &[offset, width]),
+            _ => self.plan(op, &[offset, width, value, self.count]),
         }
+    }
+
+    /// Every width at and near the end of the frame.
+    fn frame_end(&mut self) {
+        for near in NEAR {
+            for width in WIDTHS {
+                self.near(self.frame.wrapping_add(near), width);
+            }
+        }
+    }
+
+    /// Any width at or near the end of the frame or of 2^64.
+    fn far_end(&mut self) {
+        let end = *self.random.pick(&[self.frame, 0]);
+        let near = *self.random.pick(&NEAR);
         let width = *self.random.pick(&WIDTHS);
-        if self.random.chance(75) {
-            offset -= offset % width;
-        }
-        let hot = self.hot.clone();
-        let op = *self.random.pick(&[Op::Read, Op::Write]);
-        self.access(op, offset, width, &hot);
+        self.near(end.wrapping_add(near), width);
     }
 
     fn identifier(&mut self) {
@@ -381,8 +431,6 @@ impl Sequence {
         self.plan(op, &args);
     }
 
-    /// An access to a bank, where it covers `intid` if the bank is by INTID. A
-    /// write is aimed at `aims`.
     fn guest_at(&mut self, intid: u64, aims: &[u64]) {
         let by_intid = self.random.chance(85);
         let bank = loop {
@@ -391,6 +439,12 @@ impl Sequence {
                 break bank;
             }
         };
+        self.bank_at(bank, intid, aims);
+    }
+
+    /// An access to a bank, where it covers `intid` if the bank is by INTID. A
+    /// write is aimed at `aims`.
+    fn bank_at(&mut self, bank: &Bank, intid: u64, aims: &[u64]) {
         let made_for = !self.random.chance(6);
         let widths = if made_for { bank.widths } else { &WIDTHS };
         let width = *self.random.pick(widths);
@@ -404,6 +458,14 @@ impl Sequence {
         let write = self.random.chance(65);
         let op = if write { Op::Write } else { Op::Read };
         self.access(op, offset, width, aims);
+    }
+
+    fn near(&mut self, mut offset: u64, width: u64) {
+        if self.random.chance(50) {
+            offset -= offset % width;
+        }
+        let op = *self.random.pick(&[Op::Read, Op::Write]);
+        self.access(op, offset, width, &[]);
     }
 
     fn access(&mut self, op: Op, offset: u64, width: u64, aims: &[u64]) {

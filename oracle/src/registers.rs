@@ -16,9 +16,15 @@ pub struct Bank {
 
 pub const WIDTHS: [u64; 4] = [1, 2, 4, 8];
 
+pub const CTLR: Bank = bank("CTLR", 0x0, 0x4, 4, &[4], 0);
+pub const TYPER: Bank = bank("TYPER", 0x4, 0x8, 4, &[4], 0);
+pub const IPRIORITYR: Bank = bank("IPRIORITYR", 0x400, 0x7fc, 1, &WIDTHS, 8);
+pub const ICFGR: Bank = bank("ICFGR", 0xc00, 0xd00, 4, &[4], 2);
+
+/// Every bank, by offset.
 pub const BANKS: [Bank; 15] = [
-    bank("CTLR", 0x0, 0x4, 4, &[4], 0),
-    bank("TYPER", 0x4, 0x8, 4, &[4], 0),
+    CTLR,
+    TYPER,
     bank("IIDR", 0x8, 0xc, 4, &[4], 0),
     bank("IGROUPR", 0x80, 0x100, 4, &[4], 1),
     bank("ISENABLER", 0x100, 0x180, 4, &[4], 1),
@@ -27,9 +33,9 @@ pub const BANKS: [Bank; 15] = [
     bank("ICPENDR", 0x280, 0x300, 4, &[4], 1),
     bank("ISACTIVER", 0x300, 0x380, 4, &[4], 1),
     bank("ICACTIVER", 0x380, 0x400, 4, &[4], 1),
-    bank("IPRIORITYR", 0x400, 0x7fc, 1, &WIDTHS, 8),
+    IPRIORITYR,
     bank("ITARGETSR", 0x800, 0xc00, 1, &WIDTHS, 8),
-    bank("ICFGR", 0xc00, 0xd00, 4, &[4], 2),
+    ICFGR,
     bank("IROUTER", 0x6000, 0x7fe0, 1, &[8], 64),
     bank("component", 0xffd0, 0x1_0000, 4, &[4], 0),
 ];
