@@ -80,9 +80,4 @@ impl<M: Machine> Recorder<M> {
             changes,
         }
     }
-
-    /// The slots after the last step, by place.
-    pub fn slots(&self) -> &[u64] {
-        &self.before
-    }
 }
