@@ -1,0 +1,121 @@
+// What the identifier calls answer, by number.
+use crate::calls;
+use crate::number::low_byte;
+use crate::number::low_word;
+use crate::number::trigger;
+use crate::number::wide;
+use crate::number::wide_word;
+use crate::slot;
+use interrupt::error::Refusal;
+use interrupt::interrupt::InterruptRecord;
+use interrupt::types::GicAffinity;
+use interrupt::types::IntId;
+use interrupt::types::IntIdAnswer;
+use interrupt::types::LpiId;
+use interrupt::types::LpiIdAnswer;
+use interrupt::types::PpiId;
+use interrupt::types::PpiIdAnswer;
+use interrupt::types::SgiId;
+use interrupt::types::SgiIdAnswer;
+use interrupt::types::SpiId;
+use interrupt::types::SpiIdAnswer;
+ghost use Prim.Native.Nat.{_≤_};
+
+// Kind 0 and the value, or a refusal's number and what it carries.
+pub struct Answer {
+    pub kind: u64,
+    pub payload: u64,
+}
+
+pub fn done(value: u64) -> Answer {
+    Answer {
+        kind: 0,
+        payload: value,
+    }
+}
+
+pub fn refused(refusal: Refusal) -> Answer {
+    match refusal {
+        Refusal::InvalidIntId(raw) => Answer {
+            kind: 1,
+            payload: wide_word(raw),
+        },
+        Refusal::ResourceConflict => bare(2),
+        Refusal::InvalidAccess => bare(3),
+        Refusal::InvalidWidth => bare(4),
+        Refusal::ShortList => bare(5),
+    }
+}
+
+fn bare(kind: u64) -> Answer {
+    Answer {
+        kind: kind,
+        payload: 0,
+    }
+}
+
+pub fn identifier(op: u64, a: u64, b: u64) -> Answer {
+    match op {
+        calls::SGI_NEW => sgi(low_byte(a)),
+        calls::PPI_NEW => ppi(low_byte(a)),
+        calls::SPI_NEW => spi(low_word(a)),
+        calls::LPI_NEW => lpi(low_word(a)),
+        calls::INTID_NEW => intid(low_word(a)),
+        calls::MPIDR => done(GicAffinity::from_mpidr(a).mpidr()),
+        calls::AFF0_TO_AFF3 => done(slot::levels(GicAffinity::from_mpidr(a))),
+        _ => record(low_word(a), b),
+    }
+}
+
+fn sgi(raw: u8) -> Answer {
+    match SgiId::new(raw) {
+        SgiIdAnswer::Made(id) => done(wide(id.raw())),
+        SgiIdAnswer::Refused(refusal) => refused(refusal),
+    }
+}
+
+fn ppi(raw: u8) -> Answer {
+    match PpiId::new(raw) {
+        PpiIdAnswer::Made(id) => done(wide(id.raw())),
+        PpiIdAnswer::Refused(refusal) => refused(refusal),
+    }
+}
+
+fn spi(raw: u32) -> Answer {
+    match SpiId::new(raw) {
+        SpiIdAnswer::Made(id) => done(wide_word(id.raw())),
+        SpiIdAnswer::Refused(refusal) => refused(refusal),
+    }
+}
+
+fn lpi(raw: u32) -> Answer {
+    match LpiId::new(raw) {
+        LpiIdAnswer::Made(id) => done(wide_word(id.raw())),
+        LpiIdAnswer::Refused(refusal) => refused(refusal),
+    }
+}
+
+fn intid(raw: u32) -> Answer {
+    match IntId::new(raw) {
+        IntIdAnswer::Made(id) => done(kind(id) * 0x1_0000_0000 + wide_word(id.raw())),
+        IntIdAnswer::Refused(refusal) => refused(refusal),
+    }
+}
+
+fn kind(id: IntId) -> u64
+    ensures { λ r. ⌜ r ≤ 3 ⌝ }
+{
+    match id {
+        IntId::Sgi(_) => 0,
+        IntId::Ppi(_) => 1,
+        IntId::Spi(_) => 2,
+        IntId::Lpi(_) => 3,
+    }
+}
+
+fn record(raw: u32, mode: u64) -> Answer {
+    match IntId::new(raw) {
+        IntIdAnswer::Made(id) => done(slot::pack(InterruptRecord::new(id, trigger(mode)))),
+        IntIdAnswer::Refused(refusal) => refused(refusal),
+    }
+}
