@@ -260,7 +260,7 @@ fn take_over(
     slots: &mut [u64; SPIS],
 ) -> bool {
     let mut at = first;
-    while (at < end) & (at < WORDS) {
+    while at < WORDS && at < end {
         let place = line::word(words, at);
         let slot = line::word(words, at + 1);
         if (spis <= place) | !whole(place, slot) {
