@@ -19,7 +19,6 @@ use interrupt::types::SgiId;
 use interrupt::types::SgiIdAnswer;
 use interrupt::types::SpiId;
 use interrupt::types::SpiIdAnswer;
-ghost use Prim.Native.Nat.{_≤_};
 
 // Kind 0 and the value, or a refusal's number and what it carries.
 pub struct Answer {
@@ -40,17 +39,22 @@ pub fn refused(refusal: Refusal) -> Answer {
             kind: 1,
             payload: wide_word(raw),
         },
-        Refusal::ResourceConflict => bare(2),
-        Refusal::InvalidAccess => bare(3),
-        Refusal::InvalidWidth => bare(4),
-        Refusal::ShortList => bare(5),
-    }
-}
-
-fn bare(kind: u64) -> Answer {
-    Answer {
-        kind: kind,
-        payload: 0,
+        Refusal::ResourceConflict => Answer {
+            kind: 2,
+            payload: 0,
+        },
+        Refusal::InvalidAccess => Answer {
+            kind: 3,
+            payload: 0,
+        },
+        Refusal::InvalidWidth => Answer {
+            kind: 4,
+            payload: 0,
+        },
+        Refusal::ShortList => Answer {
+            kind: 5,
+            payload: 0,
+        },
     }
 }
 
@@ -97,14 +101,12 @@ fn lpi(raw: u32) -> Answer {
 
 fn intid(raw: u32) -> Answer {
     match IntId::new(raw) {
-        IntIdAnswer::Made(id) => done(kind(id) * 0x1_0000_0000 + wide_word(id.raw())),
+        IntIdAnswer::Made(id) => done(kind(id) << 32 | wide_word(id.raw())),
         IntIdAnswer::Refused(refusal) => refused(refusal),
     }
 }
 
-fn kind(id: IntId) -> u64
-    ensures { λ r. ⌜ r ≤ 3 ⌝ }
-{
+fn kind(id: IntId) -> u64 {
     match id {
         IntId::Sgi(_) => 0,
         IntId::Ppi(_) => 1,

@@ -1,9 +1,9 @@
 // The words of a line, taken in a byte at a time.
 use crate::line::WORDS;
-use crate::number::wide;
+ghost use Prim.Native.Nat.{_≤_};
 
 pub struct Lexer {
-    // The words of the line that are whole.
+    // How many words of the line are whole.
     count: usize,
     // The number that the digits so far make, and whether there are any.
     number: u64,
@@ -15,11 +15,6 @@ pub enum Lexed {
     // The line is whole, and has this many words.
     Line(usize),
     Bad,
-}
-
-enum Digit {
-    Is(u64),
-    Not,
 }
 
 impl Lexer {
@@ -36,16 +31,12 @@ impl Lexer {
         self.digits | (0 < self.count)
     }
 
+    // A space or a newline ends a word, which has digits.
     pub fn byte(self, byte: u8, words: &mut [u64; WORDS]) -> Lexed {
-        match byte {
-            b' ' => self.space(words),
-            b'\n' => self.newline(words),
-            _ => self.other(byte),
-        }
-    }
-
-    fn space(self, words: &mut [u64; WORDS]) -> Lexed {
         let at = self.count;
+        if (byte != b' ') & (byte != b'\n') {
+            return self.digit(hex(byte));
+        }
         if WORDS <= at {
             return Lexed::Bad;
         }
@@ -53,51 +44,36 @@ impl Lexer {
             return Lexed::Bad;
         }
         words[at] = self.number;
-        Lexed::More(Lexer {
-            count: at + 1,
-            number: 0,
-            digits: false,
-        })
-    }
-
-    fn newline(self, words: &mut [u64; WORDS]) -> Lexed {
-        let next = self.space(words);
-        match next {
-            Lexed::More(lexer) => Lexed::Line(lexer.count),
-            Lexed::Line(_) => Lexed::Bad,
-            Lexed::Bad => Lexed::Bad,
-        }
-    }
-
-    fn other(self, byte: u8) -> Lexed {
-        let digit = digit_of(byte);
-        match digit {
-            Digit::Is(value) => self.digit(value),
-            Digit::Not => Lexed::Bad,
+        if byte == b'\n' {
+            Lexed::Line(at + 1)
+        } else {
+            Lexed::More(Lexer {
+                count: at + 1,
+                number: 0,
+                digits: false,
+            })
         }
     }
 
     // A number has no leading zero, and fits in 64 bits.
     fn digit(self, value: u64) -> Lexed {
         let number = self.number;
-        if 0x1000_0000_0000_0000 <= number {
-            return Lexed::Bad;
-        }
-        if self.digits & (number == 0) {
+        if (15 < value) | self.digits & (number == 0) | (0x0fff_ffff_ffff_ffff < number) {
             return Lexed::Bad;
         }
         Lexed::More(Lexer {
             count: self.count,
-            number: 16 * number + value % 16,
+            number: number << 4 | value,
             digits: true,
         })
     }
 }
 
-fn digit_of(byte: u8) -> Digit {
+// A digit's value, 16 where the byte is none.
+fn hex(byte: u8) -> u64 {
     match byte {
-        b'0'..=b'9' => Digit::Is(wide(byte - b'0')),
-        b'a'..=b'f' => Digit::Is(wide(byte - b'a' + 10)),
-        _ => Digit::Not,
+        b'0'..=b'9' => (byte - b'0') as u64,
+        b'a'..=b'f' => (byte - b'a') as u64 + 10,
+        _ => 16,
     }
 }

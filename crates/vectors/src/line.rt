@@ -48,35 +48,37 @@ impl Seen {
     }
 }
 
-// The word at a place, 0 past the end.
-pub fn word(words: &[u64; WORDS], at: usize) -> u64 {
-    if at < WORDS { words[at] } else { 0 }
+// The word at a place, 0 past the line's end.
+pub fn word(words: &[u64; WORDS], count: usize, at: usize) -> u64 {
+    if at < WORDS && at < count {
+        words[at]
+    } else {
+        0
+    }
 }
 
 // A line has ten words, one more for a candidate, and two more for a changed slot.
 pub fn parse(words: &[u64; WORDS], count: usize) -> Parsed {
     let candidates = words[7];
-    if count < 10 {
-        return Parsed::Bad;
-    }
     if WORDS < count {
         return Parsed::Bad;
     }
-    let rest = (count - 10) as u64;
-    if rest < candidates {
+    let rest = count as u64;
+    if rest < 10 {
         return Parsed::Bad;
     }
-    let after = candidates as usize + 8;
-    let switch = word(words, after);
-    let changes = word(words, after + 1);
-    let pairs = rest - candidates;
-    if (pairs % 2 != 0) | (changes != pairs / 2) | (1 < switch) {
+    if rest - 10 < candidates {
         return Parsed::Bad;
     }
-    let first = after + 2;
+    let first = candidates as usize + 10;
+    let seen = seen_of(words, count, first);
+    let pairs = rest - 10 - candidates;
+    if (seen.changes != pairs / 2) | (pairs % 2 != 0) | (1 < seen.switch) {
+        return Parsed::Bad;
+    }
     Parsed::Whole(Line {
         call: call_of(words),
-        seen: seen_of(words, candidates, switch, changes, first),
+        seen: seen,
         first: first,
         end: count,
     })
@@ -92,17 +94,17 @@ fn call_of(words: &[u64; WORDS]) -> Call {
     }
 }
 
-fn seen_of(words: &[u64; WORDS], candidates: u64, switch: u64, changes: u64, first: usize) -> Seen
-    requires { ⌜ first ≤ 4096 ⌝ }
+// `first` is where the changed slots begin.
+fn seen_of(words: &[u64; WORDS], count: usize, first: usize) -> Seen
+    requires { ⌜ (10 ≤ first) × (first ≤ 4096) ⌝ }
 {
-    let some = changes != 0;
     Seen {
         kind: words[5],
         payload: words[6],
-        candidates: candidates,
-        switch: switch,
-        changes: changes,
-        place: if some { word(words, first) } else { 0 },
-        slot: if some { word(words, first + 1) } else { 0 },
+        candidates: words[7],
+        switch: word(words, count, first - 2),
+        changes: word(words, count, first - 1),
+        place: word(words, count, first),
+        slot: word(words, count, first + 1),
     }
 }

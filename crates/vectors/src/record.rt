@@ -1,8 +1,8 @@
 // The calls on one record: what each makes of it, and what it answers.
 use crate::calls;
 use crate::number::bit;
+use crate::number::has;
 use crate::number::low_byte;
-use crate::number::odd;
 use crate::number::of_state;
 use crate::number::of_trigger;
 use crate::number::state;
@@ -32,7 +32,7 @@ pub struct Done {
 // A target mask does not take where the route is fixed.
 pub fn run(op: u64, b: u64, intid: IntId, slot: u64) -> Done {
     let record = slot::unpack(intid, slot);
-    let kept = (op == calls::SET_CPU_TARGET_MASK) & slot::fixed(slot);
+    let kept = (op == calls::SET_CPU_TARGET_MASK) & has(slot, slot::FIXED);
     let left = if kept {
         record
     } else {
@@ -40,7 +40,7 @@ pub fn run(op: u64, b: u64, intid: IntId, slot: u64) -> Done {
     };
     Done {
         value: value(op, b, record),
-        slot: slot::pack(left) + slot::marks(slot),
+        slot: slot::pack(left) | slot & slot::MARKS,
     }
 }
 
@@ -55,21 +55,21 @@ fn changed(record: InterruptRecord, change: Change) -> InterruptRecord {
 fn change_of(op: u64, b: u64) -> Change {
     match op {
         calls::SET_CPU_TARGET_MASK => Change::By(Operation::SetCpuTargetMask(low_byte(b))),
-        calls::SET_ENABLED => Change::By(Operation::SetEnabled(odd(b))),
-        calls::SET_PENDING => Change::By(Operation::SetPending(odd(b))),
-        calls::SET_ACTIVE => Change::By(Operation::SetActive(odd(b))),
+        calls::SET_ENABLED => Change::By(Operation::SetEnabled(has(b, 1))),
+        calls::SET_PENDING => Change::By(Operation::SetPending(has(b, 1))),
+        calls::SET_ACTIVE => Change::By(Operation::SetActive(has(b, 1))),
         calls::SET_STATE => Change::By(Operation::SetState(state(b))),
         calls::CLEAR_DELIVERY_STATE => Change::By(Operation::ClearDeliveryState),
         calls::MARK_INFLIGHT => Change::By(Operation::MarkInflight),
         calls::SYNCHRONIZE_INFLIGHT => Change::By(Operation::SynchronizeInflight(state(b))),
         calls::CANCEL_INFLIGHT => Change::By(Operation::CancelInflight),
         calls::FINISH_INFLIGHT => Change::By(Operation::FinishInflight),
-        calls::DEACTIVATE_INFLIGHT => Change::By(Operation::DeactivateInflight(odd(b))),
+        calls::DEACTIVATE_INFLIGHT => Change::By(Operation::DeactivateInflight(has(b, 1))),
         calls::SET_PRIORITY => Change::By(Operation::SetPriority(Priority::new(low_byte(b)))),
         calls::SET_TRIGGER => Change::By(Operation::SetTrigger(trigger(b))),
         calls::SET_ROUTE => Change::By(Operation::SetRoute(GicAffinity::from_mpidr(b))),
         calls::CLEAR_ROUTE => Change::By(Operation::ClearRoute),
-        calls::SET_LEVEL => Change::By(Operation::SetLevel(odd(b))),
+        calls::SET_LEVEL => Change::By(Operation::SetLevel(has(b, 1))),
         calls::PULSE => Change::By(Operation::Pulse),
         calls::COMPLETE => Change::By(Operation::Complete),
         _ => Change::Nothing,
@@ -96,8 +96,7 @@ fn value(op: u64, b: u64, record: InterruptRecord) -> u64 {
 }
 
 fn mask(record: InterruptRecord) -> u64 {
-    let mask = record.cpu_target_mask();
-    match mask {
+    match record.cpu_target_mask() {
         TargetMask::Cores(cores) => wide(cores),
         TargetMask::Unset => 1,
     }
@@ -110,9 +109,8 @@ fn merged(record: InterruptRecord, b: u64) -> u64 {
 }
 
 fn route(record: InterruptRecord) -> u64 {
-    let route = record.route();
-    match route {
-        Route::To(affinity) => 0x100_0000_0000 + affinity.mpidr() % 0x100_0000_0000,
+    match record.route() {
+        Route::To(affinity) => 1 << 40 | affinity.mpidr(),
         Route::Unset => 0,
     }
 }

@@ -67,13 +67,9 @@ impl Run {
             }
             Lexed::Line(count) => {
                 self.lexer = Lexer::new();
-                self.lines = next(self.lines);
-                self.line(line::parse(words, count), words, slots)
+                self.line(count, words, slots)
             }
-            Lexed::Bad => {
-                self.lines = next(self.lines);
-                self.bad()
-            }
+            Lexed::Bad => self.cut(),
         }
     }
 
@@ -81,12 +77,13 @@ impl Run {
     pub fn end(mut self) -> Run {
         let lexer = self.lexer;
         self.reading = false;
-        if lexer.within() {
-            self.lines = next(self.lines);
-            self.bad()
-        } else {
-            self
-        }
+        if lexer.within() { self.cut() } else { self }
+    }
+
+    // The line that has begun is bad.
+    fn cut(mut self) -> Run {
+        self.lines = next(self.lines);
+        self.bad()
     }
 
     pub fn unread(self) -> Run {
@@ -105,8 +102,9 @@ impl Run {
         self
     }
 
-    fn line(self, parsed: Parsed, words: &[u64; WORDS], slots: &mut [u64; SPIS]) -> Run {
-        match parsed {
+    fn line(mut self, count: usize, words: &[u64; WORDS], slots: &mut [u64; SPIS]) -> Run {
+        self.lines = next(self.lines);
+        match line::parse(words, count) {
             Parsed::Whole(line) => self.call(line, words, slots),
             Parsed::Bad => self.bad(),
         }
@@ -159,7 +157,11 @@ impl Run {
         self.made = seen.kind == 0;
         self.spis = if self.made { call.a } else { 0 };
         *slots = [FRESH; SPIS];
-        self.pass(line, words, slots)
+        if self.spis <= SPIS as u64 {
+            self.pass(line, words, slots)
+        } else {
+            self.bad()
+        }
     }
 
     fn distributor(self, line: Line, words: &[u64; WORDS], slots: &mut [u64; SPIS]) -> Run {
@@ -228,10 +230,11 @@ fn by_spi(call: Call, spis: u64, switch: u64, slots: &mut [u64; SPIS]) -> Seen {
 
 // A call on the record at a place. The slot that it leaves is listed where it is another.
 fn on_slot(call: Call, intid: IntId, place: u64, switch: u64, slots: &mut [u64; SPIS]) -> Seen {
-    let at = place as usize;
-    let before = slot_at(slots, at);
+    // A table has at most SPIS places, so the remainder is the place.
+    let at = place as usize % SPIS;
+    let before = slots[at];
     let done = record::run(call.op, call.b, intid, before);
-    put(slots, at, done.slot);
+    slots[at] = done.slot;
     let mut seen = unchanged(answer::done(done.value), switch);
     if done.slot != before {
         seen.changes = 1;
@@ -241,17 +244,7 @@ fn on_slot(call: Call, intid: IntId, place: u64, switch: u64, slots: &mut [u64; 
     seen
 }
 
-fn slot_at(slots: &[u64; SPIS], at: usize) -> u64 {
-    if at < SPIS { slots[at] } else { 0 }
-}
-
-fn put(slots: &mut [u64; SPIS], at: usize, slot: u64) {
-    if at < SPIS {
-        slots[at] = slot;
-    }
-}
-
-// Puts the slots that a line lists into their places, and answers whether each was one of the table and whole.
+// Puts the slots that a line lists into their places, and answers whether each is of the table and whole.
 fn take_over(
     words: &[u64; WORDS],
     first: usize,
@@ -261,12 +254,12 @@ fn take_over(
 ) -> bool {
     let mut at = first;
     while at < WORDS && at < end {
-        let place = line::word(words, at);
-        let slot = line::word(words, at + 1);
+        let place = words[at];
+        let slot = line::word(words, end, at + 1);
         if (spis <= place) | !whole(place, slot) {
             return false;
         }
-        put(slots, place as usize, slot);
+        slots[place as usize % SPIS] = slot;
         at += 2;
     }
     true

@@ -1,8 +1,8 @@
 // A slot of a list: one SPI's record, its claim and its fixed mark in one number (docs/ORACLE.md, "The list").
 // A record's fields are hidden, so it is built by its operations and seen by its operations.
 use crate::number::bit;
+use crate::number::has;
 use crate::number::low_byte;
-use crate::number::odd;
 use crate::number::of_trigger;
 use crate::number::trigger;
 use crate::number::wide;
@@ -13,51 +13,39 @@ use interrupt::types::GicAffinity;
 use interrupt::types::IntId;
 use interrupt::types::InterruptState;
 use interrupt::types::Priority;
-ghost use Prim.Native.Nat.{_≤_, _<_};
+
+// The first flags; the trigger is edge.
+const ENABLED: u64 = 0x1;
+
+const PENDING: u64 = 0x2;
+
+const ACTIVE: u64 = 0x4;
+
+const INFLIGHT: u64 = 0x8;
+
+const REDELIVERY: u64 = 0x10;
+
+const LINE: u64 = 0x20;
+
+const ROUTED: u64 = 0x200;
+
+const MASKED: u64 = 0x400;
+
+// Claim and fixed mark: they are the Distributor's, and no record has them.
+pub const FIXED: u64 = 0x100;
+
+pub const MARKS: u64 = 0x180;
 
 // A slot as creation leaves it: the default priority and nothing else.
 pub const FRESH: u64 = 0x80_0000;
 
-const CLAIMED: u64 = 0x80;
-
-const FIXED: u64 = 0x100;
-
-// Claim and fixed mark: they are the Distributor's, and no record has them.
-pub fn marks(slot: u64) -> u64
-    ensures { λ r. ⌜ r ≤ 0x180 ⌝ }
-{
-    bit(odd(slot / CLAIMED)) * CLAIMED + bit(fixed(slot)) * FIXED
-}
-
-pub fn fixed(slot: u64) -> bool {
-    odd(slot / FIXED)
-}
-
-// The record of a slot. Pending and active are set last, since what comes before may set them too.
 pub fn unpack(intid: IntId, slot: u64) -> InterruptRecord {
-    let fresh = InterruptRecord::new(intid, trigger(slot / 0x40));
-    let ranked = fresh.set_priority(Priority::new(low_byte(slot / 0x1_0000)));
-    let aimed = aim(ranked, slot);
-    let taken = take(aimed, odd(slot / 8), odd(slot / 0x10));
-    let wired = raise(taken, odd(slot / 0x20));
-    let state = InterruptState::of(odd(slot / 2), odd(slot / 4));
-    wired.set_enabled(odd(slot)).set_state(state)
-}
-
-// A record has a route, or a target mask, or neither.
-fn aim(record: InterruptRecord, slot: u64) -> InterruptRecord {
-    if odd(slot / 0x200) {
-        record.set_route(GicAffinity::new(
-            low_byte(slot / 0x100_0000_0000_0000),
-            low_byte(slot / 0x1_0000_0000_0000),
-            low_byte(slot / 0x100_0000_0000),
-            low_byte(slot / 0x1_0000_0000),
-        ))
-    } else if odd(slot / 0x400) {
-        record.set_cpu_target_mask(low_byte(slot / 0x100_0000))
-    } else {
-        record
-    }
+    let fresh = InterruptRecord::new(intid, trigger(slot >> 6));
+    let taken = take(fresh, has(slot, INFLIGHT), has(slot, REDELIVERY));
+    let wired = raise(taken, has(slot, LINE)).set_enabled(has(slot, ENABLED));
+    // Pending and active come last, since what is before may set them too.
+    let live = wired.set_state(InterruptState::of(has(slot, PENDING), has(slot, ACTIVE)));
+    aim(live.set_priority(Priority::new(low_byte(slot >> 16))), slot)
 }
 
 // A pulse in flight leaves the redelivery mark.
@@ -74,23 +62,35 @@ fn raise(record: InterruptRecord, line: bool) -> InterruptRecord {
     if line { record.set_level(true) } else { record }
 }
 
-// The slot of a record, without claim and fixed mark.
-pub fn pack(record: InterruptRecord) -> u64
-    ensures { λ r. ⌜ r ≤ 0xffff_ffff_ffff_067f ⌝ }
-{
-    life(record) + wide(record.priority().raw()) * 0x1_0000 + route(record) + target(record)
+// A record has a route, or a target mask, or neither.
+fn aim(record: InterruptRecord, slot: u64) -> InterruptRecord {
+    if has(slot, ROUTED) {
+        record.set_route(GicAffinity::new(
+            low_byte(slot >> 56),
+            low_byte(slot >> 48),
+            low_byte(slot >> 40),
+            low_byte(slot >> 32),
+        ))
+    } else if has(slot, MASKED) {
+        record.set_cpu_target_mask(low_byte(slot >> 24))
+    } else {
+        record
+    }
 }
 
-fn life(record: InterruptRecord) -> u64
-    ensures { λ r. ⌜ r < 0x80 ⌝ }
-{
+// The slot of a record, without claim and fixed mark.
+pub fn pack(record: InterruptRecord) -> u64 {
+    flags(record) | wide(record.priority().raw()) << 16 | route(record) | target(record)
+}
+
+fn flags(record: InterruptRecord) -> u64 {
     bit(record.enabled())
-        + bit(record.pending()) * 2
-        + bit(record.active()) * 4
-        + bit(inflight(record)) * 8
-        + bit(redelivery(record)) * 0x10
-        + bit(line(record)) * 0x20
-        + of_trigger(record.trigger()) * 0x40
+        | bit(record.pending()) << 1
+        | bit(record.active()) << 2
+        | bit(inflight(record)) << 3
+        | bit(redelivery(record)) << 4
+        | bit(line(record)) << 5
+        | of_trigger(record.trigger()) << 6
 }
 
 fn inflight(record: InterruptRecord) -> bool {
@@ -111,32 +111,24 @@ fn line(record: InterruptRecord) -> bool {
     record.set_pending(false).set_enabled(true).pending()
 }
 
-fn route(record: InterruptRecord) -> u64
-    ensures { λ r. ⌜ r ≤ 0xffff_ffff_0000_0200 ⌝ }
-{
-    let route = record.route();
-    match route {
-        Route::To(affinity) => 0x200 + levels(affinity) * 0x1_0000_0000,
+fn route(record: InterruptRecord) -> u64 {
+    match record.route() {
+        Route::To(affinity) => ROUTED | levels(affinity) << 32,
         Route::Unset => 0,
     }
 }
 
-// The levels from 0 up, a byte each.
-pub fn levels(affinity: GicAffinity) -> u64
-    ensures { λ r. ⌜ r < 0x1_0000_0000 ⌝ }
-{
-    wide(affinity.aff0())
-        + wide(affinity.aff1()) * 0x100
-        + wide(affinity.aff2()) * 0x1_0000
-        + wide(affinity.aff3()) * 0x100_0000
-}
-
-fn target(record: InterruptRecord) -> u64
-    ensures { λ r. ⌜ r ≤ 0xff00_0400 ⌝ }
-{
-    let mask = record.cpu_target_mask();
-    match mask {
-        TargetMask::Cores(cores) => 0x400 + wide(cores) * 0x100_0000,
+fn target(record: InterruptRecord) -> u64 {
+    match record.cpu_target_mask() {
+        TargetMask::Cores(cores) => MASKED | wide(cores) << 24,
         TargetMask::Unset => 0,
     }
+}
+
+// The levels of an affinity, a byte each, level 0 lowest.
+pub fn levels(affinity: GicAffinity) -> u64 {
+    wide(affinity.aff0())
+        | wide(affinity.aff1()) << 8
+        | wide(affinity.aff2()) << 16
+        | wide(affinity.aff3()) << 24
 }

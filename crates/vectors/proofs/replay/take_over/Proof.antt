@@ -14,14 +14,17 @@ abbrev μ-loop : tie.MeasureT-loop
 loop-holds : tie.Need-loop-holds Inv-loop μ-loop
 loop-holds c = tt
 
-word-requires : tie.Need-word-requires Inv-loop μ-loop
-word-requires c κs = tt
+mul-place : tie.Need-mul-place Inv-loop μ-loop
+mul-place c = search needs
+
+element-copy-out-place : tie.Need-element-copy-out-place Inv-loop μ-loop
+element-copy-out-place c = search needs
 
 add-word : tie.Need-add-word Inv-loop μ-loop
 add-word c = omega arith
 
-word-requires-2 : tie.Need-word-requires-2 Inv-loop μ-loop
-word-requires-2 c κs = tt
+word-requires : tie.Need-word-requires Inv-loop μ-loop
+word-requires c κs = tt
 
 whole-requires : tie.Need-whole-requires Inv-loop μ-loop
 whole-requires c κs = tt
@@ -29,8 +32,11 @@ whole-requires c κs = tt
 returns : tie.Need-returns Inv-loop μ-loop
 returns c = tt
 
-put-requires : tie.Need-put-requires Inv-loop μ-loop
-put-requires c κs = tt
+mul-slots : tie.Need-mul-slots Inv-loop μ-loop
+mul-slots c = search needs
+
+element-write-slots : tie.Need-element-write-slots Inv-loop μ-loop
+element-write-slots c = search needs
 
 add-at : tie.Need-add-at Inv-loop μ-loop
 add-at c = omega arith
@@ -50,4 +56,4 @@ returns-3 c = tt
 pub take-over-spec : {M : Type 1} → statement M
 take-over-spec =
     tie.close
-    (tie.spec Inv-loop μ-loop loop-holds word-requires add-word word-requires-2 whole-requires returns put-requires add-at loop-less loop-again returns-2 returns-3)
+    (tie.spec Inv-loop μ-loop loop-holds mul-place element-copy-out-place add-word word-requires whole-requires returns mul-slots element-write-slots add-at loop-less loop-again returns-2 returns-3)
