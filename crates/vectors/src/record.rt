@@ -18,25 +18,18 @@ use interrupt::types::GicAffinity;
 use interrupt::types::IntId;
 use interrupt::types::Priority;
 
-pub enum Change {
-    By(Operation),
-    Nothing,
-}
-
 // The value that the call answers, and the slot that it leaves.
 pub struct Done {
     pub value: u64,
     pub slot: u64,
 }
 
-// A target mask does not take where the route is fixed.
 pub fn run(op: u64, b: u64, intid: IntId, slot: u64) -> Done {
     let record = slot::unpack(intid, slot);
-    let kept = (op == calls::SET_CPU_TARGET_MASK) & has(slot, slot::FIXED);
-    let left = if kept {
-        record
+    let left = if changes(op, slot) {
+        record.apply(operation(op, b))
     } else {
-        changed(record, change_of(op, b))
+        record
     };
     Done {
         value: value(op, b, record),
@@ -44,35 +37,41 @@ pub fn run(op: u64, b: u64, intid: IntId, slot: u64) -> Done {
     }
 }
 
-fn changed(record: InterruptRecord, change: Change) -> InterruptRecord {
-    match change {
-        Change::By(operation) => record.apply(operation),
-        Change::Nothing => record,
+// A question changes nothing, and a target mask does not take where the route is fixed.
+fn changes(op: u64, slot: u64) -> bool {
+    match op {
+        calls::CPU_TARGET_MASK | calls::INTID | calls::ENABLED | calls::PENDING => false,
+        calls::ACTIVE | calls::STATE | calls::HAS_DELIVERY_STATE | calls::PRIORITY => false,
+        calls::TRIGGER | calls::ROUTE | calls::DELIVERABLE => false,
+        calls::SET_CPU_TARGET_MASK => !has(slot, slot::FIXED),
+        _ => true,
     }
 }
 
-// A question changes nothing.
-fn change_of(op: u64, b: u64) -> Change {
+// The operation of a call that is no question.
+fn operation(op: u64, b: u64) -> Operation {
+    let on = has(b, 1);
+    let byte = low_byte(b);
+    let life = state(b);
     match op {
-        calls::SET_CPU_TARGET_MASK => Change::By(Operation::SetCpuTargetMask(low_byte(b))),
-        calls::SET_ENABLED => Change::By(Operation::SetEnabled(has(b, 1))),
-        calls::SET_PENDING => Change::By(Operation::SetPending(has(b, 1))),
-        calls::SET_ACTIVE => Change::By(Operation::SetActive(has(b, 1))),
-        calls::SET_STATE => Change::By(Operation::SetState(state(b))),
-        calls::CLEAR_DELIVERY_STATE => Change::By(Operation::ClearDeliveryState),
-        calls::MARK_INFLIGHT => Change::By(Operation::MarkInflight),
-        calls::SYNCHRONIZE_INFLIGHT => Change::By(Operation::SynchronizeInflight(state(b))),
-        calls::CANCEL_INFLIGHT => Change::By(Operation::CancelInflight),
-        calls::FINISH_INFLIGHT => Change::By(Operation::FinishInflight),
-        calls::DEACTIVATE_INFLIGHT => Change::By(Operation::DeactivateInflight(has(b, 1))),
-        calls::SET_PRIORITY => Change::By(Operation::SetPriority(Priority::new(low_byte(b)))),
-        calls::SET_TRIGGER => Change::By(Operation::SetTrigger(trigger(b))),
-        calls::SET_ROUTE => Change::By(Operation::SetRoute(GicAffinity::from_mpidr(b))),
-        calls::CLEAR_ROUTE => Change::By(Operation::ClearRoute),
-        calls::SET_LEVEL => Change::By(Operation::SetLevel(has(b, 1))),
-        calls::PULSE => Change::By(Operation::Pulse),
-        calls::COMPLETE => Change::By(Operation::Complete),
-        _ => Change::Nothing,
+        calls::SET_CPU_TARGET_MASK => Operation::SetCpuTargetMask(byte),
+        calls::SET_ENABLED => Operation::SetEnabled(on),
+        calls::SET_PENDING => Operation::SetPending(on),
+        calls::SET_ACTIVE => Operation::SetActive(on),
+        calls::SET_STATE => Operation::SetState(life),
+        calls::CLEAR_DELIVERY_STATE => Operation::ClearDeliveryState,
+        calls::MARK_INFLIGHT => Operation::MarkInflight,
+        calls::SYNCHRONIZE_INFLIGHT => Operation::SynchronizeInflight(life),
+        calls::CANCEL_INFLIGHT => Operation::CancelInflight,
+        calls::FINISH_INFLIGHT => Operation::FinishInflight,
+        calls::DEACTIVATE_INFLIGHT => Operation::DeactivateInflight(on),
+        calls::SET_PRIORITY => Operation::SetPriority(Priority::new(byte)),
+        calls::SET_TRIGGER => Operation::SetTrigger(trigger(b)),
+        calls::SET_ROUTE => Operation::SetRoute(GicAffinity::from_mpidr(b)),
+        calls::CLEAR_ROUTE => Operation::ClearRoute,
+        calls::SET_LEVEL => Operation::SetLevel(on),
+        calls::PULSE => Operation::Pulse,
+        _ => Operation::Complete,
     }
 }
 
@@ -81,17 +80,23 @@ fn value(op: u64, b: u64, record: InterruptRecord) -> u64 {
     match op {
         calls::CPU_TARGET_MASK => mask(record),
         calls::INTID => wide_word(record.intid().raw()),
-        calls::ENABLED => bit(record.enabled()),
-        calls::PENDING => bit(record.pending()),
-        calls::ACTIVE => bit(record.active()),
         calls::STATE => of_state(record.state()),
-        calls::HAS_DELIVERY_STATE => bit(record.has_delivery_state()),
         calls::SYNCHRONIZE_INFLIGHT => merged(record, b),
         calls::PRIORITY => wide(record.priority().raw()),
         calls::TRIGGER => of_trigger(record.trigger()),
         calls::ROUTE => route(record),
-        calls::DELIVERABLE => bit(record.deliverable()),
-        _ => 0,
+        _ => bit(flag(op, record)),
+    }
+}
+
+fn flag(op: u64, record: InterruptRecord) -> bool {
+    match op {
+        calls::ENABLED => record.enabled(),
+        calls::PENDING => record.pending(),
+        calls::ACTIVE => record.active(),
+        calls::HAS_DELIVERY_STATE => record.has_delivery_state(),
+        calls::DELIVERABLE => record.deliverable(),
+        _ => false,
     }
 }
 

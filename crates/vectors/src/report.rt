@@ -6,13 +6,14 @@ fn text(bytes: &[u8]) {
     io::write_all(STDOUT_FILENO, bytes);
 }
 
-fn decimal(n: u64) {
+// A number with what stands before it.
+fn count(before: &[u8], n: u64) {
+    text(before);
     io::print_decimal(STDOUT_FILENO, n);
 }
 
 pub fn bad(line: u64) {
-    text(b"bad line ");
-    decimal(line);
+    count(b"bad line ", line);
     text(b"\n");
 }
 
@@ -21,15 +22,16 @@ pub fn unread() {
 }
 
 pub fn difference(line: u64, seen: Seen, got: Seen) {
-    text(b"difference in line ");
-    decimal(line);
-    text(b": kind payload candidates switch changes place slot\n    in the list");
-    words(seen);
-    text(b"    here       ");
-    words(got);
+    count(b"difference in line ", line);
+    text(b": kind payload candidates switch changes place slot");
+    words(b"\n    in the list", seen);
+    words(b"\n    here       ", got);
+    text(b"\n");
 }
 
-fn words(seen: Seen) {
+// What is seen of a call, as a list has it.
+fn words(before: &[u8], seen: Seen) {
+    text(before);
     word(seen.kind);
     word(seen.payload);
     word(seen.candidates);
@@ -37,7 +39,6 @@ fn words(seen: Seen) {
     word(seen.changes);
     word(seen.place);
     word(seen.slot);
-    text(b"\n");
 }
 
 fn word(n: u64) {
@@ -46,13 +47,8 @@ fn word(n: u64) {
 }
 
 pub fn summary(identifiers: u64, records: u64, passed: u64) {
-    text(b"compared ");
-    decimal(std::num::wrapping_add_u64(identifiers, records));
-    text(b" calls, ");
-    decimal(identifiers);
-    text(b" on identifiers and ");
-    decimal(records);
-    text(b" on records: no difference\npassed over ");
-    decimal(passed);
-    text(b" calls on the Distributor\n");
+    count(b"calls on identifiers compared: ", identifiers);
+    count(b"\ncalls on records compared: ", records);
+    count(b"\ncalls on the Distributor passed over: ", passed);
+    text(b"\nno difference\n");
 }

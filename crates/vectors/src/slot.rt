@@ -39,13 +39,19 @@ pub const MARKS: u64 = 0x180;
 // A slot as creation leaves it: the default priority and nothing else.
 pub const FRESH: u64 = 0x80_0000;
 
+// The record of a slot.
 pub fn unpack(intid: IntId, slot: u64) -> InterruptRecord {
     let fresh = InterruptRecord::new(intid, trigger(slot >> 6));
-    let taken = take(fresh, has(slot, INFLIGHT), has(slot, REDELIVERY));
-    let wired = raise(taken, has(slot, LINE)).set_enabled(has(slot, ENABLED));
-    // Pending and active come last, since what is before may set them too.
-    let live = wired.set_state(InterruptState::of(has(slot, PENDING), has(slot, ACTIVE)));
+    let live = revive(fresh, slot);
     aim(live.set_priority(Priority::new(low_byte(slot >> 16))), slot)
+}
+
+// A fresh record brought to life. Pending and active come last, since what is before may set them too.
+fn revive(fresh: InterruptRecord, slot: u64) -> InterruptRecord {
+    let taken = take(fresh, has(slot, INFLIGHT), has(slot, REDELIVERY));
+    let wired = raise(taken, has(slot, LINE));
+    let state = InterruptState::of(has(slot, PENDING), has(slot, ACTIVE));
+    wired.set_enabled(has(slot, ENABLED)).set_state(state)
 }
 
 // A pulse in flight leaves the redelivery mark.
@@ -65,17 +71,21 @@ fn raise(record: InterruptRecord, line: bool) -> InterruptRecord {
 // A record has a route, or a target mask, or neither.
 fn aim(record: InterruptRecord, slot: u64) -> InterruptRecord {
     if has(slot, ROUTED) {
-        record.set_route(GicAffinity::new(
-            low_byte(slot >> 56),
-            low_byte(slot >> 48),
-            low_byte(slot >> 40),
-            low_byte(slot >> 32),
-        ))
+        record.set_route(affinity(slot))
     } else if has(slot, MASKED) {
         record.set_cpu_target_mask(low_byte(slot >> 24))
     } else {
         record
     }
+}
+
+fn affinity(slot: u64) -> GicAffinity {
+    GicAffinity::new(
+        low_byte(slot >> 56),
+        low_byte(slot >> 48),
+        low_byte(slot >> 40),
+        low_byte(slot >> 32),
+    )
 }
 
 // The slot of a record, without claim and fixed mark.
