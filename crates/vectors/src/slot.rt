@@ -4,6 +4,7 @@ use crate::number::bit;
 use crate::number::has;
 use crate::number::low_byte;
 use crate::number::of_trigger;
+use crate::number::state;
 use crate::number::trigger;
 use crate::number::wide;
 use interrupt::interrupt::InterruptRecord;
@@ -13,6 +14,12 @@ use interrupt::types::GicAffinity;
 use interrupt::types::IntId;
 use interrupt::types::InterruptState;
 use interrupt::types::Priority;
+use interrupt::types::TriggerMode;
+ghost use mathlib.Core.Path.{_≡_};
+ghost use mathlib.Core.Bool.{_&&_};
+ghost use Rattle.interrupt.specs.Life.{flags, fresh};
+ghost use Rattle.interrupt.specs.State.{pendingOf, activeOf};
+ghost use Rattle.vectors.specs.Revived.{takenAs, raisedAs};
 
 // The first flags; the trigger is edge.
 const ENABLED: u64 = 0x1;
@@ -41,41 +48,61 @@ pub const FRESH: u64 = 0x80_0000;
 
 // The record of a slot.
 pub fn unpack(intid: IntId, slot: u64) -> InterruptRecord {
-    let fresh = InterruptRecord::new(intid, trigger(slot >> 6));
-    let live = revive(fresh, slot);
+    let live = revive(
+        intid,
+        trigger(slot >> 6),
+        has(slot, ENABLED),
+        has(slot, INFLIGHT),
+        has(slot, REDELIVERY),
+        has(slot, LINE),
+        state(slot >> 1),
+    );
     aim(live.set_priority(Priority::new(low_byte(slot >> 16))), slot)
 }
 
-// A fresh record brought to life. Pending and active come last, since what is before may set them too.
-fn revive(fresh: InterruptRecord, slot: u64) -> InterruptRecord {
-    let taken = take(fresh, has(slot, INFLIGHT), has(slot, REDELIVERY));
-    let wired = raise(taken, has(slot, LINE));
-    let state = InterruptState::of(has(slot, PENDING), has(slot, ACTIVE));
-    wired.set_enabled(has(slot, ENABLED)).set_state(state)
+// A new record brought to any combination of its flags that can be reached. The state comes last, since what is before may
+// make it pending.
+fn revive(
+    intid: IntId,
+    trigger: TriggerMode,
+    enabled: bool,
+    inflight: bool,
+    redelivery: bool,
+    line: bool,
+    state: InterruptState,
+) -> InterruptRecord
+    ensures { λ r. ⌜ r ≡ flags enabled (pendingOf state) (activeOf state) inflight (inflight && redelivery) line (fresh intid trigger) ⌝ }
+{
+    let taken = take(InterruptRecord::new(intid, trigger), inflight, redelivery);
+    raise(taken, line).set_enabled(enabled).set_state(state)
 }
 
 // A pulse in flight leaves the redelivery mark.
-fn take(record: InterruptRecord, inflight: bool, redelivery: bool) -> InterruptRecord {
+fn take(irq: InterruptRecord, inflight: bool, redelivery: bool) -> InterruptRecord
+    ensures { λ r. ⌜ r ≡ takenAs inflight redelivery irq ⌝ }
+{
     if inflight {
-        let taken = record.mark_inflight();
+        let taken = irq.mark_inflight();
         if redelivery { taken.pulse() } else { taken }
     } else {
-        record
+        irq
     }
 }
 
-fn raise(record: InterruptRecord, line: bool) -> InterruptRecord {
-    if line { record.set_level(true) } else { record }
+fn raise(irq: InterruptRecord, line: bool) -> InterruptRecord
+    ensures { λ r. ⌜ r ≡ raisedAs line irq ⌝ }
+{
+    if line { irq.set_level(true) } else { irq }
 }
 
 // A record has a route, or a target mask, or neither.
-fn aim(record: InterruptRecord, slot: u64) -> InterruptRecord {
+fn aim(irq: InterruptRecord, slot: u64) -> InterruptRecord {
     if has(slot, ROUTED) {
-        record.set_route(affinity(slot))
+        irq.set_route(affinity(slot))
     } else if has(slot, MASKED) {
-        record.set_cpu_target_mask(low_byte(slot >> 24))
+        irq.set_cpu_target_mask(low_byte(slot >> 24))
     } else {
-        record
+        irq
     }
 }
 
@@ -89,47 +116,51 @@ fn affinity(slot: u64) -> GicAffinity {
 }
 
 // The slot of a record, without claim and fixed mark.
-pub fn pack(record: InterruptRecord) -> u64 {
-    flags(record) | wide(record.priority().raw()) << 16 | route(record) | target(record)
+pub fn pack(irq: InterruptRecord) -> u64 {
+    flags(irq) | wide(irq.priority().raw()) << 16 | route(irq) | target(irq)
 }
 
-fn flags(record: InterruptRecord) -> u64 {
-    bit(record.enabled())
-        | bit(record.pending()) << 1
-        | bit(record.active()) << 2
-        | bit(inflight(record)) << 3
-        | bit(redelivery(record)) << 4
-        | bit(line(record)) << 5
-        | of_trigger(record.trigger()) << 6
+fn flags(irq: InterruptRecord) -> u64 {
+    bit(irq.enabled())
+        | bit(irq.pending()) << 1
+        | bit(irq.active()) << 2
+        | bit(inflight(irq)) << 3
+        | bit(redelivery(irq)) << 4
+        | bit(line(irq)) << 5
+        | of_trigger(irq.trigger()) << 6
 }
 
-fn inflight(record: InterruptRecord) -> bool {
-    record
-        .set_state(InterruptState::Inactive)
+fn inflight(irq: InterruptRecord) -> bool
+    ensures { λ r. ⌜ r ≡ irq .inflight ⌝ }
+{
+    irq.set_state(InterruptState::Inactive)
         .set_pending(false)
         .has_delivery_state()
 }
 
-fn redelivery(record: InterruptRecord) -> bool {
-    record
-        .set_state(InterruptState::Inactive)
+fn redelivery(irq: InterruptRecord) -> bool
+    ensures { λ r. ⌜ r ≡ irq .«redelivery_pending» ⌝ }
+{
+    irq.set_state(InterruptState::Inactive)
         .cancel_inflight()
         .pending()
 }
 
-fn line(record: InterruptRecord) -> bool {
-    record.set_pending(false).set_enabled(true).pending()
+fn line(irq: InterruptRecord) -> bool
+    ensures { λ r. ⌜ r ≡ irq .«line_asserted» ⌝ }
+{
+    irq.set_pending(false).set_enabled(true).pending()
 }
 
-fn route(record: InterruptRecord) -> u64 {
-    match record.route() {
+fn route(irq: InterruptRecord) -> u64 {
+    match irq.route() {
         Route::To(affinity) => ROUTED | levels(affinity) << 32,
         Route::Unset => 0,
     }
 }
 
-fn target(record: InterruptRecord) -> u64 {
-    match record.cpu_target_mask() {
+fn target(irq: InterruptRecord) -> u64 {
+    match irq.cpu_target_mask() {
         TargetMask::Cores(cores) => MASKED | wide(cores) << 24,
         TargetMask::Unset => 0,
     }
