@@ -1,5 +1,4 @@
-// What the identifier calls answer, by number.
-use crate::calls;
+// The calls on identifiers, by number, and what an answer is.
 use crate::number::low_byte;
 use crate::number::low_word;
 use crate::number::trigger;
@@ -60,13 +59,14 @@ pub fn refused(refusal: Refusal) -> Answer {
 
 pub fn identifier(op: u64, a: u64, b: u64) -> Answer {
     match op {
-        calls::SGI_NEW => sgi(low_byte(a)),
-        calls::PPI_NEW => ppi(low_byte(a)),
-        calls::SPI_NEW => spi(low_word(a)),
-        calls::LPI_NEW => lpi(low_word(a)),
-        calls::INTID_NEW => intid(low_word(a)),
-        calls::MPIDR => done(GicAffinity::from_mpidr(a).mpidr()),
-        calls::AFF0_TO_AFF3 => done(slot::levels(GicAffinity::from_mpidr(a))),
+        0x01 => sgi(low_byte(a)),
+        0x02 => ppi(low_byte(a)),
+        0x03 => spi(low_word(a)),
+        0x04 => lpi(low_word(a)),
+        0x05 => intid(low_word(a)),
+        0x06 => done(GicAffinity::from_mpidr(a).mpidr()),
+        0x07 => done(slot::levels(GicAffinity::from_mpidr(a))),
+        // 0x08
         _ => record(low_word(a), b),
     }
 }

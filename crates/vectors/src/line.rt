@@ -63,16 +63,16 @@ pub fn parse(words: &[u64; WORDS], count: usize) -> Parsed {
     if WORDS < count {
         return Parsed::Bad;
     }
-    let rest = count as u64;
-    if rest < 10 {
+    let length = count as u64;
+    if length < 10 {
         return Parsed::Bad;
     }
-    if rest - 10 < candidates {
+    if length - 10 < candidates {
         return Parsed::Bad;
     }
     let first = candidates as usize + 10;
     let seen = seen_of(words, count, first);
-    let pairs = rest - 10 - candidates;
+    let pairs = length - 10 - candidates;
     if (seen.changes != pairs / 2) | (pairs % 2 != 0) | (1 < seen.switch) {
         return Parsed::Bad;
     }

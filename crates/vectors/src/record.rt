@@ -1,5 +1,4 @@
-// The calls on one record: what each makes of it, and what it answers.
-use crate::calls;
+// The calls on one record, by number: what each makes of it, and what it answers.
 use crate::number::bit;
 use crate::number::has;
 use crate::number::low_byte;
@@ -40,10 +39,8 @@ pub fn run(op: u64, b: u64, intid: IntId, slot: u64) -> Done {
 // A question changes nothing, and a target mask does not take where the route is fixed.
 fn changes(op: u64, slot: u64) -> bool {
     match op {
-        calls::CPU_TARGET_MASK | calls::INTID | calls::ENABLED | calls::PENDING => false,
-        calls::ACTIVE | calls::STATE | calls::HAS_DELIVERY_STATE | calls::PRIORITY => false,
-        calls::TRIGGER | calls::ROUTE | calls::DELIVERABLE => false,
-        calls::SET_CPU_TARGET_MASK => !has(slot, slot::FIXED),
+        0x19 | 0x20 | 0x21 | 0x23 | 0x25 | 0x27 | 0x29 | 0x30 | 0x32 | 0x34 | 0x3a => false,
+        0x18 => !has(slot, slot::FIXED),
         _ => true,
     }
 }
@@ -54,23 +51,24 @@ fn operation(op: u64, b: u64) -> Operation {
     let byte = low_byte(b);
     let life = state(b);
     match op {
-        calls::SET_CPU_TARGET_MASK => Operation::SetCpuTargetMask(byte),
-        calls::SET_ENABLED => Operation::SetEnabled(on),
-        calls::SET_PENDING => Operation::SetPending(on),
-        calls::SET_ACTIVE => Operation::SetActive(on),
-        calls::SET_STATE => Operation::SetState(life),
-        calls::CLEAR_DELIVERY_STATE => Operation::ClearDeliveryState,
-        calls::MARK_INFLIGHT => Operation::MarkInflight,
-        calls::SYNCHRONIZE_INFLIGHT => Operation::SynchronizeInflight(life),
-        calls::CANCEL_INFLIGHT => Operation::CancelInflight,
-        calls::FINISH_INFLIGHT => Operation::FinishInflight,
-        calls::DEACTIVATE_INFLIGHT => Operation::DeactivateInflight(on),
-        calls::SET_PRIORITY => Operation::SetPriority(Priority::new(byte)),
-        calls::SET_TRIGGER => Operation::SetTrigger(trigger(b)),
-        calls::SET_ROUTE => Operation::SetRoute(GicAffinity::from_mpidr(b)),
-        calls::CLEAR_ROUTE => Operation::ClearRoute,
-        calls::SET_LEVEL => Operation::SetLevel(on),
-        calls::PULSE => Operation::Pulse,
+        0x18 => Operation::SetCpuTargetMask(byte),
+        0x22 => Operation::SetEnabled(on),
+        0x24 => Operation::SetPending(on),
+        0x26 => Operation::SetActive(on),
+        0x28 => Operation::SetState(life),
+        0x2a => Operation::ClearDeliveryState,
+        0x2b => Operation::MarkInflight,
+        0x2c => Operation::SynchronizeInflight(life),
+        0x2d => Operation::CancelInflight,
+        0x2e => Operation::FinishInflight,
+        0x2f => Operation::DeactivateInflight(on),
+        0x31 => Operation::SetPriority(Priority::new(byte)),
+        0x33 => Operation::SetTrigger(trigger(b)),
+        0x35 => Operation::SetRoute(GicAffinity::from_mpidr(b)),
+        0x36 => Operation::ClearRoute,
+        0x37 => Operation::SetLevel(on),
+        0x38 => Operation::Pulse,
+        // 0x39
         _ => Operation::Complete,
     }
 }
@@ -78,24 +76,24 @@ fn operation(op: u64, b: u64) -> Operation {
 // What the call answers of the record as it finds it, 0 where it has no value.
 fn value(op: u64, b: u64, record: InterruptRecord) -> u64 {
     match op {
-        calls::CPU_TARGET_MASK => mask(record),
-        calls::INTID => wide_word(record.intid().raw()),
-        calls::STATE => of_state(record.state()),
-        calls::SYNCHRONIZE_INFLIGHT => merged(record, b),
-        calls::PRIORITY => wide(record.priority().raw()),
-        calls::TRIGGER => of_trigger(record.trigger()),
-        calls::ROUTE => route(record),
+        0x19 => mask(record),
+        0x20 => wide_word(record.intid().raw()),
+        0x27 => of_state(record.state()),
+        0x2c => merged(record, b),
+        0x30 => wide(record.priority().raw()),
+        0x32 => of_trigger(record.trigger()),
+        0x34 => route(record),
         _ => bit(flag(op, record)),
     }
 }
 
 fn flag(op: u64, record: InterruptRecord) -> bool {
     match op {
-        calls::ENABLED => record.enabled(),
-        calls::PENDING => record.pending(),
-        calls::ACTIVE => record.active(),
-        calls::HAS_DELIVERY_STATE => record.has_delivery_state(),
-        calls::DELIVERABLE => record.deliverable(),
+        0x21 => record.enabled(),
+        0x23 => record.pending(),
+        0x25 => record.active(),
+        0x29 => record.has_delivery_state(),
+        0x3a => record.deliverable(),
         _ => false,
     }
 }

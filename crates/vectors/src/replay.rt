@@ -17,6 +17,7 @@ use crate::line::WORDS;
 use crate::number::low_word;
 use crate::record;
 use crate::report;
+use crate::slot;
 use crate::slot::FRESH;
 use interrupt::error::Refusal;
 use interrupt::types::IntId;
@@ -244,7 +245,7 @@ fn on_slot(call: Call, intid: IntId, place: u64, switch: u64, slots: &mut [u64; 
     seen
 }
 
-// Puts the slots that a line lists into their places, and answers whether each is of the table and whole.
+// Puts the slots that a line lists into their places, and answers whether each place and each slot can be.
 fn take_over(
     words: &[u64; WORDS],
     first: usize,
@@ -259,16 +260,16 @@ fn take_over(
         if (spis <= place) | !whole(place, slot) {
             return false;
         }
+        // As in `on_slot`, the remainder is the place.
         slots[place as usize % SPIS] = slot;
         at += 2;
     }
     true
 }
 
-// Whether the number is the slot of some record. None has a redelivery mark that is not in flight.
 fn whole(place: u64, slot: u64) -> bool {
     match IntId::new(low_word(std::num::wrapping_add_u64(place, 32))) {
-        IntIdAnswer::Made(intid) => record::run(calls::INTID, 0, intid, slot).slot == slot,
+        IntIdAnswer::Made(intid) => slot::whole(intid, slot),
         IntIdAnswer::Refused(_) => false,
     }
 }

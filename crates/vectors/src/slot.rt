@@ -21,19 +21,6 @@ ghost use Rattle.interrupt.specs.Life.{flags, fresh};
 ghost use Rattle.interrupt.specs.State.{pendingOf, activeOf};
 ghost use Rattle.vectors.specs.Revived.{takenAs, raisedAs};
 
-// The first flags; the trigger is edge.
-const ENABLED: u64 = 0x1;
-
-const PENDING: u64 = 0x2;
-
-const ACTIVE: u64 = 0x4;
-
-const INFLIGHT: u64 = 0x8;
-
-const REDELIVERY: u64 = 0x10;
-
-const LINE: u64 = 0x20;
-
 const ROUTED: u64 = 0x200;
 
 const MASKED: u64 = 0x400;
@@ -51,10 +38,10 @@ pub fn unpack(intid: IntId, slot: u64) -> InterruptRecord {
     let live = revive(
         intid,
         trigger(slot >> 6),
-        has(slot, ENABLED),
-        has(slot, INFLIGHT),
-        has(slot, REDELIVERY),
-        has(slot, LINE),
+        has(slot, 0x01),
+        has(slot, 0x08),
+        has(slot, 0x10),
+        has(slot, 0x20),
         state(slot >> 1),
     );
     aim(live.set_priority(Priority::new(low_byte(slot >> 16))), slot)
@@ -113,6 +100,12 @@ fn affinity(slot: u64) -> GicAffinity {
         low_byte(slot >> 40),
         low_byte(slot >> 32),
     )
+}
+
+// Whether the number is the slot of some record. None has a redelivery mark that is not in flight, or both a route and a
+// target mask.
+pub fn whole(intid: IntId, slot: u64) -> bool {
+    pack(unpack(intid, slot)) | slot & MARKS == slot
 }
 
 // The slot of a record, without claim and fixed mark.
