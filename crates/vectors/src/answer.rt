@@ -1,4 +1,5 @@
 // The calls on identifiers, by number, and what an answer is.
+use crate::line::Seen;
 use crate::number::low_byte;
 use crate::number::low_word;
 use crate::number::trigger;
@@ -23,6 +24,21 @@ use interrupt::types::SpiIdAnswer;
 pub struct Answer {
     pub kind: u64,
     pub payload: u64,
+}
+
+impl Answer {
+    // The answer, with nothing changed.
+    pub fn unchanged(self, switch: u64) -> Seen {
+        Seen {
+            kind: self.kind,
+            payload: self.payload,
+            candidates: 0,
+            switch: switch,
+            changes: 0,
+            place: 0,
+            slot: 0,
+        }
+    }
 }
 
 pub fn done(value: u64) -> Answer {

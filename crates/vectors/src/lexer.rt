@@ -1,6 +1,5 @@
 // The words of a line, taken in a byte at a time.
 use crate::line::WORDS;
-ghost use Prim.Native.Nat.{_≤_};
 
 pub struct Lexer {
     // How many words of the line are whole.

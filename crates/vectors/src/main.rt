@@ -9,10 +9,11 @@ mod record;
 mod replay;
 mod report;
 mod slot;
+mod table;
 
 use crate::line::WORDS;
 use crate::replay::Run;
-use crate::replay::SPIS;
+use crate::table::SPIS;
 use libc::STDIN_FILENO;
 
 fn main() {

@@ -3,7 +3,6 @@
 // A call of this repository is run on the state that the lines before left, and all that is seen of it is held against the
 // line. A call that is passed over is not run, and the state that its line gives is taken over.
 use crate::answer;
-use crate::answer::Answer;
 use crate::calls;
 use crate::calls::Kind;
 use crate::lexer::Lexed;
@@ -14,19 +13,10 @@ use crate::line::Line;
 use crate::line::Parsed;
 use crate::line::Seen;
 use crate::line::WORDS;
-use crate::number::low_word;
-use crate::record;
 use crate::report;
-use crate::slot;
 use crate::slot::FRESH;
-use interrupt::error::Refusal;
-use interrupt::types::IntId;
-use interrupt::types::IntIdAnswer;
-use interrupt::types::SpiId;
-use interrupt::types::SpiIdAnswer;
-
-// The most SPIs of a table.
-pub const SPIS: usize = 988;
+use crate::table;
+use crate::table::SPIS;
 
 pub struct Run {
     // There may be more to read, and nothing is wrong so far.
@@ -129,7 +119,7 @@ impl Run {
         }
         self.identifiers = next(self.identifiers);
         let got = answer::identifier(call.op, call.a, call.b);
-        self.compare(line.seen, unchanged(got, self.switch))
+        self.compare(line.seen, got.unchanged(self.switch))
     }
 
     fn record(mut self, line: Line, slots: &mut [u64; SPIS]) -> Run {
@@ -138,7 +128,7 @@ impl Run {
             return self.bad();
         }
         self.records = next(self.records);
-        let got = by_spi(call, self.spis, self.switch, slots);
+        let got = table::by_spi(call, self.spis, self.switch, slots);
         self.compare(line.seen, got)
     }
 
@@ -178,7 +168,7 @@ impl Run {
         let seen = line.seen;
         self.switch = seen.switch;
         self.passed = next(self.passed);
-        if take_over(words, line.first, line.end, self.spis, slots) {
+        if table::take_over(words, line.first, line.end, self.spis, slots) {
             self
         } else {
             self.bad()
@@ -198,78 +188,4 @@ fn proper(call: Call) -> bool {
         & (call.b <= calls::largest_b(op))
         & (call.c == 0)
         & (call.d == 0)
-}
-
-// An answer, and nothing changed.
-fn unchanged(answer: Answer, switch: u64) -> Seen {
-    Seen {
-        kind: answer.kind,
-        payload: answer.payload,
-        candidates: 0,
-        switch: switch,
-        changes: 0,
-        place: 0,
-        slot: 0,
-    }
-}
-
-// A call by SPI: one that is no SPI or is outside the table is refused.
-fn by_spi(call: Call, spis: u64, switch: u64, slots: &mut [u64; SPIS]) -> Seen {
-    let raw = low_word(call.a);
-    let place = std::num::wrapping_sub_u64(call.a, 32);
-    match SpiId::new(raw) {
-        SpiIdAnswer::Refused(refusal) => unchanged(answer::refused(refusal), switch),
-        SpiIdAnswer::Made(spi) => {
-            if place < spis {
-                on_slot(call, IntId::Spi(spi), place, switch, slots)
-            } else {
-                unchanged(answer::refused(Refusal::InvalidIntId(raw)), switch)
-            }
-        }
-    }
-}
-
-// A call on the record at a place. The slot that it leaves is listed where it is another.
-fn on_slot(call: Call, intid: IntId, place: u64, switch: u64, slots: &mut [u64; SPIS]) -> Seen {
-    // A table has at most SPIS places, so the remainder is the place.
-    let at = place as usize % SPIS;
-    let before = slots[at];
-    let done = record::run(call.op, call.b, intid, before);
-    slots[at] = done.slot;
-    let mut seen = unchanged(answer::done(done.value), switch);
-    if done.slot != before {
-        seen.changes = 1;
-        seen.place = place;
-        seen.slot = done.slot;
-    }
-    seen
-}
-
-// Puts the slots that a line lists into their places, and answers whether each place and each slot can be.
-fn take_over(
-    words: &[u64; WORDS],
-    first: usize,
-    end: usize,
-    spis: u64,
-    slots: &mut [u64; SPIS],
-) -> bool {
-    let mut at = first;
-    while at < WORDS && at < end {
-        let place = words[at];
-        let slot = line::word(words, end, at + 1);
-        if (spis <= place) | !whole(place, slot) {
-            return false;
-        }
-        // As in `on_slot`, the remainder is the place.
-        slots[place as usize % SPIS] = slot;
-        at += 2;
-    }
-    true
-}
-
-fn whole(place: u64, slot: u64) -> bool {
-    match IntId::new(low_word(std::num::wrapping_add_u64(place, 32))) {
-        IntIdAnswer::Made(intid) => slot::whole(intid, slot),
-        IntIdAnswer::Refused(_) => false,
-    }
 }

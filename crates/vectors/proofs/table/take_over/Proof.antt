@@ -2,8 +2,8 @@
 use Prim.Native.Nat.{_-_}
 use native.Mathlib.Omega.{arith}
 use borrow.Author.Needs.{needs}
-use Rattle.vectors.proofs.replay.take_over.Statement.{statement}
-use Rattle.vectors.proofs.replay.take_over.Tie as tie
+use Rattle.vectors.proofs.table.take_over.Statement.{statement}
+use Rattle.vectors.proofs.table.take_over.Tie as tie
 
 abbrev Inv-loop : tie.InvT-loop
 Inv-loop words first end spis slots₀ at₀ slots at = Unit {0}
