@@ -47,8 +47,12 @@ fn word(n: u64) {
 }
 
 pub fn summary(identifiers: u64, records: u64, passed: u64) {
-    count(b"calls on identifiers compared: ", identifiers);
-    count(b"\ncalls on records compared: ", records);
-    count(b"\ncalls on the Distributor passed over: ", passed);
+    count(
+        b"calls compared: ",
+        std::num::wrapping_add_u64(identifiers, records),
+    );
+    count(b"\n    on identifiers: ", identifiers);
+    count(b"\n    on records: ", records);
+    count(b"\ncalls passed over: ", passed);
     text(b"\nno difference\n");
 }
