@@ -1,0 +1,32 @@
+//! The original Rust, run as the judge of the port.
+//!
+//! The four files of arm_vgic are compiled unchanged, where they lie. What they
+//! lean on is in `stand_ins`; `driver` runs calls on them; the rest chooses
+//! calls, prints the answers and counts what was met.
+
+extern crate alloc;
+// distributor.rs takes the access width from this crate.
+extern crate self as axvm_types;
+
+pub mod board;
+pub mod calls;
+pub mod coverage;
+pub mod driver;
+pub mod generate;
+pub mod list;
+pub mod machine;
+pub mod reach;
+pub mod registers;
+mod stand_ins;
+
+mod controller {
+    pub(crate) use crate::stand_ins::ControllerConfig;
+}
+
+include!(concat!(env!("OUT_DIR"), "/sources.rs"));
+
+pub(crate) use distributor::DistributorState;
+pub(crate) use interrupt::InterruptRecord;
+pub use stand_ins::AccessWidth;
+pub(crate) use stand_ins::{GicV3SpiOwnership, RegisterRegion, VgicError, VgicResult};
+pub(crate) use types::*;
