@@ -40,8 +40,8 @@ abbrev pub inTable : ℕ → ℕ → Bool
 inTable n i = within 32 (32 + n) i
 
 -- an SPI that could be and is not there. With explicit claims the guest is refused over it, by the base's rule
-abbrev pub beyondTable : ControllerConfig → ℕ → ℕ → Bool
-beyondTable c n i = explicit (c .«spi_ownership») && within (32 + n) 1020 i
+abbrev pub beyondTable : Bool → ℕ → ℕ → Bool
+beyondTable explicit n i = explicit && within (32 + n) 1020 i
 
 -- ---- the banks, row by row
 
@@ -156,6 +156,10 @@ writeRefuses b f = not (ignoresBeyond b) && acts b f
 abbrev pub field : Bank → ℕ → ℕ → ℕ → ℕ
 field b v lo i = v / (2 ^ bitsOf b) ^ (i - lo) % 2 ^ bitsOf b
 
+-- an INTID over which a write of the value v is refused
+abbrev pub refusedOver : Bool → ℕ → Bank → ℕ → ℕ → ℕ → Bool
+refusedOver explicit n b v lo i = writeRefuses b (field b v lo i) && beyondTable explicit n i
+
 -- m fields packed into one number
 abbrev pub packed : Bank → (ℕ → ℕ) → ℕ → ℕ → ℕ
 packed b t lo zero = 0
@@ -179,10 +183,10 @@ module _ (c : ControllerConfig) (n : ℕ) (b : Bank) where
 
   -- the INTIDs over which a read, or a write, is refused 1: it carries the lowest
   abbrev pub readBeyond : ℕ → ℕ → List ℕ
-  readBeyond lo m = passing (λ i. readRefuses b && beyondTable c n i) lo m
+  readBeyond lo m = passing (λ i. readRefuses b && beyondTable (explicit (c .«spi_ownership»)) n i) lo m
 
   abbrev pub writeBeyond : ℕ → ℕ → ℕ → List ℕ
-  writeBeyond v lo m = passing (λ i. writeRefuses b (field b v lo i) && beyondTable c n i) lo m
+  writeBeyond v lo m = passing (refusedOver (explicit (c .«spi_ownership»)) n b v lo) lo m
 
   -- an SPI that a write of v acts on, if it is owned
   abbrev pub reaches : ℕ → ℕ → ℕ → ℕ → Bool

@@ -6,8 +6,8 @@ use lib.ListN.{length}
 use Rattle.theory.specs.Places.{laid}
 use Rattle.distributor.specs.declared.bank.Slot.{Slot}
 use Rattle.distributor.specs.declared.distributor.DistributorState.{DistributorState}
-use Rattle.distributor.specs.declared.distributor.Beyond.{Beyond}
-use Rattle.distributor.specs.declared.distributor.Beyond.the-variants.{Nothing, At}
+use Rattle.distributor.specs.declared.bank.Beyond.{Beyond}
+use Rattle.distributor.specs.declared.bank.Beyond.the-variants.{Nothing, At}
 
 abbrev pub withSlots : DistributorState → List Slot → DistributorState
 withSlots d l = record { config = d .config; enabled = d .enabled; «spi_count» = d .«spi_count»; slots = l }

@@ -8,15 +8,49 @@ use interrupt::types::Priority;
 use interrupt::types::TriggerMode;
 ghost use mathlib.Core.Path.{_≡_};
 ghost use mathlib.Core.Bool.{cond, not, _&&_, _||_};
-ghost use Prim.Native.Nat.{_+_, _*_, _/_, _%_, _^_, _<_};
+ghost use Prim.Native.Nat.{_+_, _*_, _/_, _%_, _^_, _≤_, _<_};
+ghost use Rattle.theory.specs.Places.{passing};
 ghost use Rattle.distributor.specs.Registers.{bitsOf};
-ghost use Rattle.distributor.specs.Banks.{routed, shown, acts, through, triggerIn, edgeField, written, lists, readRefuses, ignoresBeyond, writeRefuses};
+ghost use Rattle.distributor.specs.Banks.{routed, shown, acts, through, triggerIn, edgeField, written, lists, readRefuses, ignoresBeyond, writeRefuses, beyondTable, refusedOver};
+ghost use Rattle.distributor.specs.Loops.{toldBeyond, lowest};
 
 // One SPI: its record, whether the host has claimed it for the guest, and whether its route is fixed.
 pub struct Slot {
     pub interrupt: InterruptRecord,
     pub explicitly_owned: bool,
     pub fixed_route: bool,
+}
+
+// The lowest INTID over which an access is refused, if there is one.
+pub enum Beyond {
+    Nothing,
+    At(u32),
+}
+
+// With explicit claims, an INTID that could be an SPI's and is not in the table.
+fn is_beyond(explicit: bool, n: u32, i: u32) -> bool
+    requires { ⌜ n ≤ 988 ⌝ }
+    ensures { λ r. ⌜ r ≡ beyondTable explicit n i ⌝ }
+{
+    explicit & ((32 + n <= i) & (i < 1020))
+}
+
+// The lowest of the m INTIDs from lo on over which a write of the value is refused.
+pub fn first_beyond(explicit: bool, n: u32, bank: Bank, value: u64, lo: u32, m: u32) -> Beyond
+    requires { ⌜ (n ≤ 988) × (lo < 0x10000) × (m ≤ 64) ⌝ }
+    ensures { λ r. ⌜ toldBeyond r ≡ lowest (passing (refusedOver explicit n bank value lo) lo m) ⌝ }
+{
+    let mut v = value;
+    let mut j: u32 = 0;
+    while j < m {
+        let i = lo + j;
+        if bank.write_refuses(bank.lowest(v)) & is_beyond(explicit, n, i) {
+            return Beyond::At(i);
+        }
+        v = bank.above(v);
+        j += 1;
+    }
+    Beyond::Nothing
 }
 
 fn route_value(route: Route) -> u64

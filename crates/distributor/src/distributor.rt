@@ -11,9 +11,9 @@ ghost use Prim.Native.Nat.{_+_, _*_, _≤_, _<_};
 ghost use lib.ListN.{length, set};
 ghost use Rattle.theory.specs.Places.{mapAt, passing};
 ghost use Rattle.distributor.specs.Registers.{bitsOf};
-ghost use Rattle.distributor.specs.Banks.{explicit, bankValue, bankSlot, candidate, writeBeyond};
+ghost use Rattle.distributor.specs.Banks.{explicit, bankValue, bankSlot, candidate};
 ghost use Rattle.distributor.specs.Calls.{size, deliverableAt};
-ghost use Rattle.distributor.specs.Loops.{withSlots, Told, toldBeyond, lowest};
+ghost use Rattle.distributor.specs.Loops.{withSlots, Told};
 
 pub struct DistributorState {
     pub config: ControllerConfig,
@@ -22,12 +22,6 @@ pub struct DistributorState {
     // How many SPIs there are: those of INTIDs 32 to 31 + spi_count, in the first places of the table.
     pub spi_count: u32,
     pub slots: [Slot; 988],
-}
-
-// The lowest INTID over which an access is refused, if there is one.
-pub enum Beyond {
-    Nothing,
-    At(u32),
 }
 
 // Where a write stands: the state, and how many candidates are listed.
@@ -124,4 +118,22 @@ pub fn write_fields(
         state: d,
         count: count,
     }
+}
+
+// Lists every deliverable record of the table.
+pub fn list_deliverable(d: DistributorState, list: &mut [u32]) -> usize
+    requires { ⌜ size d ≤ length (now list) ⌝ }
+    ensures { λ r. ⌜ Told (passing (deliverableAt (d .slots)) 32 (size d)) (now (list .entry)) (now (list .exit)) r ⌝ }
+{
+    let n = d.size();
+    let mut count: usize = 0;
+    let mut j: u32 = 0;
+    while j < n {
+        let p = j as usize;
+        let s = d.slots[p];
+        let interrupt = s.interrupt;
+        count = note(list, count, 32 + j, interrupt.deliverable());
+        j += 1;
+    }
+    count
 }

@@ -3,7 +3,7 @@ use Prim.Native.Nat.{ℕ, zero, suc, _+_, _-_, _≤_, _<_, max}
 use mathlib.Core.Path.{_≡_, refl, sym, ap, _∙_}
 use mathlib.Core.Bool.{Bool, true, false, cond}
 use mathlib.Core.List.{List, [], _∷_, _++_}
-use native.Mathlib.Nat.{le-of-suc-le-suc, not-suc-le-zero, add-zero, add-suc}
+use native.Mathlib.Nat.{le-of-suc-le-suc, not-suc-le-zero, add-zero, zero-add}
 use native.Mathlib.Omega.{arith}
 use lib.ListN.{length, getD, set, drop, length-append, length-drop}
 use lib.Seq.{getD-append-add, getD-drop}
@@ -61,6 +61,19 @@ passing-more t k (suc n) =
   where
     go : (b : Bool) → passing t (suc k) (suc n) ≡ passing t (suc k) n ++ cond (t (k + suc n)) ((k + suc n) ∷ []) []
         → cond b (k ∷ passing t (suc k) (suc n)) (passing t (suc k) (suc n)) ≡ cond b (k ∷ passing t (suc k) n) (passing t (suc k) n) ++ cond (t (k + suc n)) ((k + suc n) ∷ []) []
+    go true h = ap (λ (l : List ℕ). k ∷ l) h
+    go false h = h
+
+-- those of the first a numbers, then those of the next b
+pub passing-split : (t : ℕ → Bool) (k a b : ℕ) → passing t k (a + b) ≡ passing t k a ++ passing t (k + a) b
+passing-split t k zero b = rw (zero-add b, add-zero k)
+passing-split t k (suc a) b =
+    let e : suc a + b ≡ suc (a + b) = omega arith in
+    let f : k + suc a ≡ suc k + a = omega arith in
+    rw (e, f) (go (t k) (passing-split t (suc k) a b))
+  where
+    go : (u : Bool) → passing t (suc k) (a + b) ≡ passing t (suc k) a ++ passing t (suc k + a) b
+        → cond u (k ∷ passing t (suc k) (a + b)) (passing t (suc k) (a + b)) ≡ cond u (k ∷ passing t (suc k) a) (passing t (suc k) a) ++ passing t (suc k + a) b
     go true h = ap (λ (l : List ℕ). k ∷ l) h
     go false h = h
 

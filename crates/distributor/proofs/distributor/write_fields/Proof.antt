@@ -11,7 +11,7 @@ use Rattle.distributor.specs.Banks.{candidate}
 use Rattle.distributor.specs.Calls.{size}
 use Rattle.distributor.specs.Loops.{withSlots, Told}
 use Rattle.distributor.specs.BankLaws.{candidate-in}
-use Rattle.distributor.proofs.Listing.{told-size, told-room, told-more}
+use Rattle.distributor.proofs.Listing.{told-size, told-room, told-more, table-fits}
 use Rattle.distributor.proofs.Writing.{swept, upTo, none-yet, used, state-more, on-more}
 use Rattle.theory.specs.Bools.{both}
 use Rattle.theory.specs.MapLaws.{mapAt-still}
@@ -105,7 +105,7 @@ note-requires c κs =
     let on =
     on-more (a .t1) (a .bank) (a .lo) (a .m) (a .value) (a .tells) (l .j) (ix .index .result) (lw .lowest .result) (sz .size .result) (it .in-table .result) (ex .is-explicit .result) (ac .acts .result) (ow .owned .result) (ls .lists .result) (tc .touched .result) (l .d) (l .v)
     (l .inv .2) (it .in-table .ensures) (sz .size .ensures) (ex .is-explicit .ensures) (ix .index .ensures ∙ of .or-first .ensures .0) (lw .lowest .ensures) (l .inv .1) (ac .acts .ensures) (ow .owned .ensures) (ls .lists .ensures) (tc .touched .ensures) (il .loop-test .taken) in
-    λ h. told-room t (a .lo) (now (a .list)) (size (a .t1)) inside (st .pre .2) (l .j) (l .list) (l .count) (l .inv .3) (sym (ap (λ (x : Bool). a .tells && ls .lists .result && (it .in-table .result && ac .acts .result && ow .owned .result) && x) (c .deliverable .ensures) ∙ on) ∙ h)
+    λ h. told-room t (a .lo) (now (a .list)) (a .m) (table-fits t (a .lo) (now (a .list)) (size (a .t1)) (a .m) inside (st .pre .2)) (l .j) (l .list) (l .count) (il .loop-test .taken) (l .inv .3) (sym (ap (λ (x : Bool). a .tells && ls .lists .result && (it .in-table .result && ac .acts .result && ow .owned .result) && x) (c .deliverable .ensures) ∙ on) ∙ h)
 
 above-requires : tie.Need-above-requires Inv-loop μ-loop
 above-requires c κs = tt
@@ -146,7 +146,7 @@ loop-again c =
       c .above .ensures ∙ used (2 ^ bitsOf (a .bank)) (a .value) (l .v) (l .j) (l .inv .1),
       state-more (a .t1) (a .bank) (a .lo) (a .m) (a .value) (a .tells) (l .j) (ix .index .result) (lw .lowest .result) (sz .size .result) (it .in-table .result) (ex .is-explicit .result) (ac .acts .result) (ow .owned .result) (ls .lists .result) (tc .touched .result) (l .d) (l .v)
           (l .inv .2) (it .in-table .ensures) (sz .size .ensures) (ex .is-explicit .ensures) (ix .index .ensures ∙ of .or-first .ensures .0) (lw .lowest .ensures) (l .inv .1) (ac .acts .ensures) (ow .owned .ensures) (ls .lists .ensures) (tc .touched .ensures),
-      rw (nt .note .ensures .0, nt .note .ensures .1) (told-more t (a .lo) (now (a .list)) (size (a .t1)) inside (st .pre .2) (l .j) (l .list) (l .count) _ (l .inv .3)
+      rw (nt .note .ensures .0, nt .note .ensures .1) (told-more t (a .lo) (now (a .list)) (a .m) (table-fits t (a .lo) (now (a .list)) (size (a .t1)) (a .m) inside (st .pre .2)) (l .j) (l .list) (l .count) _ (il .loop-test .taken) (l .inv .3)
           (ap (λ (x : Bool). a .tells && ls .lists .result && (it .in-table .result && ac .acts .result && ow .owned .result) && x) (dl .deliverable .ensures) ∙ on)),
     )
 
@@ -155,8 +155,10 @@ same-length c =
     let st = c .before .before .before .before .before .before in
     let a = st .args in
     let l = c .before .loop in
-    told-size (λ i. a .tells && candidate (a .t1 .config) (size (a .t1)) (a .bank) (a .value) (a .lo) (a .m) (a .t1 .slots) i) (a .lo) (now (a .list)) (size (a .t1))
-    (λ i e. candidate-in (a .t1 .config) (size (a .t1)) (a .bank) (a .value) (a .lo) (a .m) (a .t1 .slots) i (both (a .tells) _ e .1)) (st .pre .2) (l .j) (l .list) (l .count) (l .inv .3)
+    let t : ℕ → Bool = λ i. a .tells && candidate (a .t1 .config) (size (a .t1)) (a .bank) (a .value) (a .lo) (a .m) (a .t1 .slots) i in
+    told-size t (a .lo) (now (a .list)) (a .m)
+    (table-fits t (a .lo) (now (a .list)) (size (a .t1)) (a .m)
+    (λ i e. candidate-in (a .t1 .config) (size (a .t1)) (a .bank) (a .value) (a .lo) (a .m) (a .t1 .slots) i (both (a .tells) _ e .1)) (st .pre .2)) (l .j) (l .list) (l .count) (l .inv .0) (l .inv .3)
 
 returns : tie.Need-returns Inv-loop μ-loop
 returns c =
