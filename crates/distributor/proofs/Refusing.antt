@@ -6,10 +6,13 @@ use mathlib.Core.List.{List, [], _∷_, _++_}
 use native.Mathlib.Numerals.{add-one}
 use native.Mathlib.Omega.{arith}
 use Rattle.theory.specs.Places.{passing}
-use Rattle.theory.specs.PlaceLaws.{passing-more, passing-split}
+use Rattle.theory.specs.PlaceLaws.{passing-more, passing-split, passing-same, passing-never}
+use Rattle.interrupt.specs.Answer.{Answer, refused}
+use Rattle.distributor.specs.declared.register.Bank.the-variants.{Igroupr, Isenabler, Icenabler, Ispendr, Icpendr, Isactiver, Icactiver, Ipriorityr, Icfgr, Irouter}
+use Rattle.distributor.specs.Calls.{unless}
 use Rattle.distributor.specs.declared.register.Bank.{Bank}
 use Rattle.distributor.specs.Registers.{bitsOf}
-use Rattle.distributor.specs.Banks.{beyondTable, writeRefuses, field, refusedOver}
+use Rattle.distributor.specs.Banks.{beyondTable, readRefuses, writeRefuses, field, refusedOver}
 use Rattle.distributor.specs.Loops.{lowest}
 use Rattle.distributor.proofs.Writing.{field-at}
 
@@ -29,3 +32,32 @@ module _ (t : ℕ → Bool) (lo j : ℕ) (none : passing t lo j ≡ []) where
       let z : m ≡ j + suc (m - suc j) = omega arith in
       let p : passing t lo m ≡ (lo + j) ∷ passing t (suc (lo + j)) (m - suc j) = ap (passing t lo) z ∙ passing-split t lo j (suc (m - suc j)) ∙ (rw (none, e)) in
       ap lowest p
+
+-- a bank whose reads are refused beyond the table refuses every write there
+pub reads-as : (b : Bank) (e : Bool) (n lo m : ℕ) → readRefuses b ≡ true
+    → lowest (passing (refusedOver e n b 0 lo) lo m) ≡ lowest (passing (λ i. readRefuses b && beyondTable e n i) lo m)
+reads-as b e n lo m h = ap lowest (passing-same (refusedOver e n b 0 lo) (λ i. readRefuses b && beyondTable e n i) lo m (λ i. ap (λ (x : Bool). x && beyondTable e n i) (go b (field b 0 lo i) h ∙ sym h)))
+  where
+    go : (b : Bank) (f : ℕ) → readRefuses b ≡ true → writeRefuses b f ≡ true
+    go Igroupr f q = cc
+    go Isenabler f q = cc
+    go Icenabler f q = cc
+    go Ispendr f q = cc
+    go Icpendr f q = cc
+    go Isactiver f q = cc
+    go Icactiver f q = cc
+    go Ipriorityr f q = refl
+    go Icfgr f q = refl
+    go Irouter f q = cc
+
+pub reads-free : (b : Bank) (e : Bool) (n lo m : ℕ) → readRefuses b ≡ false → [] ≡ lowest (passing (λ i. readRefuses b && beyondTable e n i) lo m)
+reads-free b e n lo m h = sym (ap lowest (passing-never (λ i. readRefuses b && beyondTable e n i) lo m (λ i. rw h)))
+
+-- an answer that waits on the lowest INTID
+pub unless-hit : (l : List ℕ) (i : ℕ) (a : Answer) → i ∷ [] ≡ lowest l → refused 1 (i ∷ []) ≡ unless l a
+unless-hit [] i a e = cc
+unless-hit (x ∷ l) i a e = let z : i ≡ x = cc in rw z
+
+pub unless-miss : (l : List ℕ) (a : Answer) → [] ≡ lowest l → a ≡ unless l a
+unless-miss [] a e = refl
+unless-miss (x ∷ l) a e = cc

@@ -4,6 +4,7 @@ pub mod Places
 pub mod Identity
 pub mod Calls
 pub mod Loops
+pub mod Told
 pub mod Names
 pub mod Board
 pub mod IdentityLaws

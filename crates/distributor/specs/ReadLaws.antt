@@ -4,14 +4,14 @@ use mathlib.Core.Path.{_≡_, refl, sym, subst, ap, _∙_}
 use mathlib.Core.Bool.{Bool, true, false, not, _&&_, _||_, cond}
 use mathlib.Core.List.{List, [], _∷_}
 use mir.Val.{boolByte}
-use native.Mathlib.Nat.{mul-le-mul-right, mul-comm, mul-suc, suc-mul, mul-zero, div-mul-le-self, pow-zero, pow-suc, le-trans}
+use native.Mathlib.Nat.{le-of-suc-le-suc, mul-le-mul-right, mul-comm, mul-suc, suc-mul, mul-zero, div-mul-le-self, pow-zero, pow-suc, le-trans}
 use native.Mathlib.Omega.{arith}
 use lib.Dec.{ltb}
 use lib.Pow.{pow-mono, pow-add, pow-pos, areBytes}
 use borrow.Author.Tests.{ltb-true}
 use Rattle.theory.specs.Bools.{both}
 use lib.Count.{leadingZeros, leading-le}
-use lib.ListN.{getD}
+use lib.ListN.{length, getD}
 use Rattle.interrupt.specs.Answer.{Answer, done, refused, toldRefusal}
 use Rattle.interrupt.specs.Affinity.{mpidrOf}
 use Rattle.interrupt.specs.AffinityLaws.{Bytes}
@@ -176,13 +176,22 @@ shown-fits Ipriorityr r p h = p
 shown-fits Icfgr r p h = edge-fits (r .trigger)
 shown-fits Irouter r p h = route-fits r h
 
-id-fits : (k : ℕ) → getD componentId k 0 < 256
+pub id-fits : (k : ℕ) → getD componentId k 0 < 256
 id-fits = go componentId refl
   where
     go : (l : List ℕ) → areBytes l ≡ true → (k : ℕ) → getD l k 0 < 256
     go [] e k = omega arith
     go (x ∷ l) e zero = ltb-true x 256 (both (ltb x 256) _ e .0)
     go (x ∷ l) e (suc k) = go l (both (ltb x 256) _ e .1) k
+
+-- there are twelve
+pub past-end : (k : ℕ) → 12 ≤ k → 0 ≡ getD componentId k 0
+past-end k h = go componentId k h
+  where
+    go : (l : List ℕ) (j : ℕ) → length l ≤ j → 0 ≡ getD l j 0
+    go [] j h = refl
+    go (x ∷ l) zero h = absurd (omega arith)
+    go (x ∷ l) (suc j) h = go l j (le-of-suc-le-suc h)
 
 module _ (d : DistributorState) (ok : Typed d) where
   showing-fits : (b : Bank) (i : ℕ) → showing (d .config) (size d) b (d .slots) i < 2 ^ bitsOf b

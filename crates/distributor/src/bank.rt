@@ -294,3 +294,15 @@ impl Slot {
         }
     }
 }
+
+// The lowest of the m INTIDs from lo on over which a read is refused.
+pub fn read_beyond(explicit: bool, n: u32, bank: Bank, lo: u32, m: u32) -> Beyond
+    requires { ⌜ (n ≤ 988) × (lo < 0x10000) × (m ≤ 64) ⌝ }
+    ensures { λ r. ⌜ toldBeyond r ≡ lowest (passing (λ i. readRefuses bank && beyondTable explicit n i) lo m) ⌝ }
+{
+    if bank.read_refuses() {
+        first_beyond(explicit, n, bank, 0, lo, m)
+    } else {
+        Beyond::Nothing
+    }
+}

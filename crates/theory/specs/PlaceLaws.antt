@@ -1,6 +1,6 @@
 -- Laws of lists place by place.
 use Prim.Native.Nat.{ℕ, zero, suc, _+_, _-_, _≤_, _<_, max}
-use mathlib.Core.Path.{_≡_, refl, sym, ap, _∙_}
+use mathlib.Core.Path.{_≡_, refl, sym, ap, fun-ext, _∙_}
 use mathlib.Core.Bool.{Bool, true, false, cond}
 use mathlib.Core.List.{List, [], _∷_, _++_}
 use native.Mathlib.Nat.{le-of-suc-le-suc, not-suc-le-zero, add-zero, zero-add}
@@ -84,3 +84,10 @@ module _ {A : Type 0} where
   laid-more [] (y ∷ ys) x h = refl
   laid-more (z ∷ zs) [] x h = absurd (omega arith)
   laid-more (z ∷ zs) (y ∷ ys) x h = ap (λ (l : List A). z ∷ l) (laid-more zs ys x (le-of-suc-le-suc h))
+
+pub passing-same : (t u : ℕ → Bool) (k n : ℕ) → ((i : ℕ) → t i ≡ u i) → passing t k n ≡ passing u k n
+passing-same t u k n h = ap (λ (f : ℕ → Bool). passing f k n) (fun-ext h)
+
+pub passing-never : (t : ℕ → Bool) (k n : ℕ) → ((i : ℕ) → t i ≡ false) → passing t k n ≡ []
+passing-never t k zero h = refl
+passing-never t k (suc n) h = rw (h k) (passing-never t (suc k) n h)
