@@ -1,4 +1,5 @@
 pub mod Digits
+pub mod Hosting
 pub mod Listing
 pub mod Reading
 pub mod Refusing

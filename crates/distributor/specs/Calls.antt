@@ -74,6 +74,10 @@ freshSlot n p = record { interrupt = fresh (IntId.Spi (record { 0 = cond (ltb p 
 abbrev pub created : ControllerConfig → ℕ → DistributorState
 created c n = record { config = c; enabled = false; «spi_count» = n; slots = tabulate (freshSlot n) 0 988 }
 
+-- more than 988 records are refused 1, with the first INTID that is no SPI's
+abbrev pub createAnswer : ℕ → Answer
+createAnswer n = cond (leb n 988) (done []) (refused 1 (1020 ∷ []))
+
 -- ---- what a call does
 
 -- refusal 5 comes first: a list with fewer places than the table has records
@@ -85,26 +89,29 @@ writeAccess c n offset w list =
 abbrev pub switchBit : ℕ → Bool
 switchBit v = eqb (v / 2 % 2) 1
 
+abbrev pub setsMask : Operation → Bool
+setsMask (SetEnabled on) = false
+setsMask (SetPending on) = false
+setsMask (SetActive on) = false
+setsMask (SetState t) = false
+setsMask ClearDeliveryState = false
+setsMask MarkInflight = false
+setsMask (SynchronizeInflight t) = false
+setsMask CancelInflight = false
+setsMask FinishInflight = false
+setsMask (DeactivateInflight p) = false
+setsMask (SetPriority p) = false
+setsMask (SetTrigger t) = false
+setsMask (SetRoute a) = false
+setsMask ClearRoute = false
+setsMask (SetCpuTargetMask m) = true
+setsMask (SetLevel high) = false
+setsMask Pulse = false
+setsMask Complete = false
+
 -- an operation on a slot: a target mask changes nothing where the route is fixed
 abbrev pub operated : Operation → Slot → Slot
-operated (SetEnabled on) s = through (SetEnabled on) s
-operated (SetPending on) s = through (SetPending on) s
-operated (SetActive on) s = through (SetActive on) s
-operated (SetState t) s = through (SetState t) s
-operated ClearDeliveryState s = through ClearDeliveryState s
-operated MarkInflight s = through MarkInflight s
-operated (SynchronizeInflight t) s = through (SynchronizeInflight t) s
-operated CancelInflight s = through CancelInflight s
-operated FinishInflight s = through FinishInflight s
-operated (DeactivateInflight p) s = through (DeactivateInflight p) s
-operated (SetPriority p) s = through (SetPriority p) s
-operated (SetTrigger t) s = through (SetTrigger t) s
-operated (SetRoute a) s = through (SetRoute a) s
-operated ClearRoute s = through ClearRoute s
-operated (SetCpuTargetMask m) s = cond (s .«fixed_route») s (through (SetCpuTargetMask m) s)
-operated (SetLevel high) s = through (SetLevel high) s
-operated Pulse s = through Pulse s
-operated Complete s = through Complete s
+operated o s = cond (setsMask o && s .«fixed_route») s (through o s)
 
 -- a claim of an unclaimed SPI: by software it leaves the record, physically it fixes the route
 abbrev pub claimed : Slot → Slot
@@ -228,6 +235,10 @@ operationValues (SetLevel high) r = []
 operationValues Pulse r = []
 operationValues Complete r = []
 
+-- a claim of an SPI that is claimed already is refused 2
+abbrev pub claimAnswer : Slot → Answer
+claimAnswer s = cond (s .«explicitly_owned») (refused 2 []) (done [])
+
 -- the record of INTID i is deliverable
 abbrev pub deliverableAt : List Slot → ℕ → Bool
 deliverableAt slots i = deliverableIn (slotOf slots i .interrupt)
@@ -236,9 +247,6 @@ module _ (d : DistributorState) where
   -- a host call on an SPI outside the table is refused 1
   abbrev pub onSpi : ℕ → (Slot → Answer) → Reply
   onSpi raw f = plain (cond (inTable (size d) raw) (f (slotOf (d .slots) raw)) (refused 1 (raw ∷ [])))
-
-  abbrev pub claimAnswer : Slot → Answer
-  claimAnswer s = cond (s .«explicitly_owned») (refused 2 []) (done [])
 
   abbrev pub readReply : Access → Reply
   readReply (Refused f) = plain (toldRefusal f)
@@ -273,13 +281,13 @@ module _ (d : DistributorState) where
   writeReply (To Reserved) v list = listing [] list
 
 unfoldable pub reply : Call → DistributorState → Reply
-reply (create c n) d = plain (cond (leb n 988) (done []) (refused 1 (1020 ∷ [])))
+reply (create c n) d = plain (createAnswer n)
 reply (read offset w) d = readReply d (decode Reading (d .config .«distributor_size») offset w)
 reply (write offset w v list) d = writeReply d (writeAccess (d .config) (size d) offset w list) v list
 reply isEnabled d = plain (done (bit (d .enabled) ∷ []))
 reply (rollback on) d = plain (done [])
-reply (claimSoftware raw) d = onSpi d raw (claimAnswer d)
-reply (claimPhysical raw a) d = onSpi d raw (claimAnswer d)
+reply (claimSoftware raw) d = onSpi d raw claimAnswer
+reply (claimPhysical raw a) d = onSpi d raw claimAnswer
 reply (release raw) d = onSpi d raw (λ s. done [])
 reply (operate o raw) d = onSpi d raw (λ s. done (operationValues o (s .interrupt)))
 reply (ask q raw) d = onSpi d raw (λ s. done (asked q (s .interrupt)))

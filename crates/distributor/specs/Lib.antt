@@ -5,6 +5,7 @@ pub mod Identity
 pub mod Calls
 pub mod Loops
 pub mod Told
+pub mod Host
 pub mod Names
 pub mod Board
 pub mod IdentityLaws

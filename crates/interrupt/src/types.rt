@@ -79,6 +79,8 @@ impl PpiId {
 }
 
 impl SpiId {
+    pub const FIRST: SpiId = SpiId(32);
+
     pub fn new(raw: u32) -> SpiIdAnswer
         ensures { λ r. ⌜ toldSpi r ≡ idAnswer 32 1020 raw ⌝ }
     {

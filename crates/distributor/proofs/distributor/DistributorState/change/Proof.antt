@@ -1,0 +1,127 @@
+-- `change` meets its contract: the slot at the SPI's place is changed, or the call is refused.
+use mathlib.Core.Path.{_≡_, refl, sym, ap, _∙_}
+use native.Mathlib.Omega.{arith}
+use Rattle.distributor.specs.BankLaws.{in-range}
+use lib.ListN.{set}
+use Rattle.distributor.specs.declared.host.ChangeAnswer.{ChangeAnswer}
+use Rattle.distributor.specs.Calls.{size}
+use Rattle.distributor.specs.Loops.{withSlots}
+use Rattle.distributor.specs.Places.{toldPlace, placeAnswer}
+use Rattle.interrupt.specs.Answer.{toldRefusal}
+use Rattle.distributor.proofs.Hosting.{at-place, off-place, changed-at, changed-off}
+use borrow.Author.Needs.{needs}
+use Rattle.distributor.proofs.distributor.DistributorState.change.Statement.{statement}
+use Rattle.distributor.proofs.distributor.DistributorState.change.Tie as tie
+
+size-requires : tie.Need-size-requires
+size-requires c κs = search needs
+
+raw-requires : tie.Need-raw-requires
+raw-requires c κs = search needs
+
+new-requires : tie.Need-new-requires
+new-requires c κs = search needs
+
+enum-known-place : tie.Need-enum-known-place
+enum-known-place c = search needs
+
+index-requires : tie.Need-index-requires
+index-requires c κs = search needs
+
+mul-old : tie.Need-mul-old
+mul-old c =
+    let pc = c .before .before in
+    let nw = pc .before .before in
+    let rw′ = nw .before in
+    let sz = rw′ .before in
+    let a = sz .before .args in
+    let k = at-place (a .t1) (a .spi .0) (pc .place .given .0 .0 .0) (sz .size .result) (sz .size .ensures)
+    (sym (ap toldPlace (pc .place .given .1)) ∙ nw .new .ensures ∙ ap (placeAnswer (sz .size .result)) (rw′ .raw .ensures)) in
+    let r = in-range (size (a .t1)) (a .spi .0) (k .0) in omega (arith, r, k .1, c .index .ensures)
+
+element-copy-out-old : tie.Need-element-copy-out-old
+element-copy-out-old c =
+    let pc = c .before .before in
+    let nw = pc .before .before in
+    let rw′ = nw .before in
+    let sz = rw′ .before in
+    let a = sz .before .args in
+    let k = at-place (a .t1) (a .spi .0) (pc .place .given .0 .0 .0) (sz .size .result) (sz .size .ensures)
+    (sym (ap toldPlace (pc .place .given .1)) ∙ nw .new .ensures ∙ ap (placeAnswer (sz .size .result)) (rw′ .raw .ensures)) in
+    let r = in-range (size (a .t1)) (a .spi .0) (k .0) in omega (arith, r, k .1, c .index .ensures)
+
+changed-requires : tie.Need-changed-requires
+changed-requires c κs = search needs
+
+mul-t14 : tie.Need-mul-t14
+mul-t14 c =
+    let ix = c .before .before in
+    let pc = ix .before .before in
+    let nw = pc .before .before in
+    let rw′ = nw .before in
+    let sz = rw′ .before in
+    let a = sz .before .args in
+    let k = at-place (a .t1) (a .spi .0) (pc .place .given .0 .0 .0) (sz .size .result) (sz .size .ensures)
+    (sym (ap toldPlace (pc .place .given .1)) ∙ nw .new .ensures ∙ ap (placeAnswer (sz .size .result)) (rw′ .raw .ensures)) in
+    let r = in-range (size (a .t1)) (a .spi .0) (k .0) in omega (arith, r, k .1, ix .index .ensures)
+
+element-set-from-self : tie.Need-element-set-from-self
+element-set-from-self c =
+    let ix = c .before .before in
+    let pc = ix .before .before in
+    let nw = pc .before .before in
+    let rw′ = nw .before in
+    let sz = rw′ .before in
+    let a = sz .before .args in
+    let k = at-place (a .t1) (a .spi .0) (pc .place .given .0 .0 .0) (sz .size .result) (sz .size .ensures)
+    (sym (ap toldPlace (pc .place .given .1)) ∙ nw .new .ensures ∙ ap (placeAnswer (sz .size .result)) (rw′ .raw .ensures)) in
+    let r = in-range (size (a .t1)) (a .spi .0) (k .0) in omega (arith, r, k .1, ix .index .ensures)
+
+answer-requires : tie.Need-answer-requires
+answer-requires c κs = search needs
+
+enum-known-refusal : tie.Need-enum-known-refusal
+enum-known-refusal c = search needs
+
+returns : tie.Need-returns
+returns c =
+    let ch = c .before in
+    let ix = ch .before .before in
+    let pc = ix .before .before in
+    let nw = pc .before .before in
+    let rw′ = nw .before in
+    let sz = rw′ .before in
+    let a = sz .before .args in
+    let k = at-place (a .t1) (a .spi .0) (pc .place .given .0 .0 .0) (sz .size .result) (sz .size .ensures)
+    (sym (ap toldPlace (pc .place .given .1)) ∙ nw .new .ensures ∙ ap (placeAnswer (sz .size .result)) (rw′ .raw .ensures)) in
+    changed-at (a .t1) (a .spi .0) (a .change) (ix .index .result) (ch .changed .result) (record { state = withSlots (a .t1) (set (a .t1 .slots) (ix .index .result) (ch .changed .result)); answer = c .answer .result }) (k .0) (ix .index .ensures ∙ k .1) (ch .changed .ensures) refl (c .answer .ensures)
+
+returns-2 : tie.Need-returns-2
+returns-2 c =
+    let rf = c .before in
+    let nw = rf .before .before in
+    let rw′ = nw .before in
+    let sz = rw′ .before in
+    let a = sz .before .args in
+    let k = off-place (a .t1) (a .spi .0) (rf .refusal .given .0 .0) (sz .size .result) (sz .size .ensures)
+    (sym (ap toldPlace (rf .refusal .given .1)) ∙ nw .new .ensures ∙ ap (placeAnswer (sz .size .result)) (rw′ .raw .ensures)) in
+    changed-off (a .t1) (a .spi .0) (a .change) (record { state = a .t1; answer = ChangeAnswer.Refused (rf .refusal .given .0 .0) }) (k .0) refl (ap toldRefusal (k .1))
+
+pub change-spec : {M : Type 1} → statement M
+change-spec =
+    tie.close
+    (tie.spec
+    size-requires
+    raw-requires
+    new-requires
+    enum-known-place
+    index-requires
+    mul-old
+    element-copy-out-old
+    changed-requires
+    mul-t14
+    element-set-from-self
+    answer-requires
+    enum-known-refusal
+    returns
+    returns-2)
