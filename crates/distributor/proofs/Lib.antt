@@ -1,3 +1,4 @@
+pub mod Creating
 pub mod Digits
 pub mod Hosting
 pub mod Listing

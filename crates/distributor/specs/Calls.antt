@@ -67,9 +67,13 @@ plain a = record { answer = a; list = [] }
 abbrev pub size : DistributorState → ℕ
 size d = min (d .«spi_count») 988
 
--- a new SPI is level-sensitive, unclaimed, and its route is not fixed. A place outside the table holds the first SPI's
+-- a new SPI is level-sensitive, unclaimed, and its route is not fixed
+abbrev pub freshSpi : ℕ → Slot
+freshSpi raw = record { interrupt = fresh (IntId.Spi (record { 0 = raw })) TriggerMode.Level; «explicitly_owned» = false; «fixed_route» = false }
+
+-- the place p of a table of n records is INTID 32 + p's; a place outside the table holds the first SPI's
 abbrev pub freshSlot : ℕ → ℕ → Slot
-freshSlot n p = record { interrupt = fresh (IntId.Spi (record { 0 = cond (ltb p n) (32 + p) 32 })) TriggerMode.Level; «explicitly_owned» = false; «fixed_route» = false }
+freshSlot n p = freshSpi (cond (ltb p n) (32 + p) 32)
 
 abbrev pub created : ControllerConfig → ℕ → DistributorState
 created c n = record { config = c; enabled = false; «spi_count» = n; slots = tabulate (freshSlot n) 0 988 }

@@ -6,6 +6,7 @@ pub mod Calls
 pub mod Loops
 pub mod Told
 pub mod Host
+pub mod Create
 pub mod Names
 pub mod Board
 pub mod IdentityLaws

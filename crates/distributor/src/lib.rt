@@ -3,6 +3,7 @@ pub mod access;
 pub mod bank;
 pub mod calls;
 pub mod controller;
+pub mod create;
 pub mod distributor;
 pub mod host;
 pub mod identity;

@@ -1,11 +1,12 @@
 -- Laws of lists place by place.
 use Prim.Native.Nat.{ℕ, zero, suc, _+_, _-_, _≤_, _<_, max}
 use mathlib.Core.Path.{_≡_, refl, sym, ap, fun-ext, _∙_}
+use mathlib.Core.Logic.{_≢_}
 use mathlib.Core.Bool.{Bool, true, false, cond}
 use mathlib.Core.List.{List, [], _∷_, _++_}
 use native.Mathlib.Nat.{le-of-suc-le-suc, not-suc-le-zero, add-zero, zero-add}
 use native.Mathlib.Omega.{arith}
-use lib.ListN.{length, getD, set, drop, length-append, length-drop}
+use lib.ListN.{length, getD, set, drop, replicate, length-append, length-drop}
 use lib.Seq.{getD-append-add, getD-drop}
 use Rattle.theory.specs.Places.{tabulate, laid, passing}
 
@@ -29,6 +30,33 @@ module _ {A : Type 0} where
   everywhere f g n e i h =
       let z : 0 + i ≡ i = omega arith in
       ap f (sym z) ∙ sym (at-tabulate f 0 n i (f 0) h) ∙ ap (λ (l : List A). getD l i (f 0)) e ∙ at-tabulate g 0 n i (f 0) h ∙ ap g z
+
+  tabulate-same : (f g : ℕ → A) (k n : ℕ) → ((i : ℕ) → k ≤ i → f i ≡ g i) → tabulate f k n ≡ tabulate g k n
+  tabulate-same f g k zero h = refl
+  tabulate-same f g k (suc n) h =
+      let p = h k (omega arith) in
+      let q = tabulate-same f g (suc k) n (λ i l. h i (omega arith)) in
+      λ j. p j ∷ q j
+
+  -- a store in a table
+  tabulate-from : (f g : ℕ → A) (k n p q : ℕ) → q ≡ k + p → ((i : ℕ) → i ≢ q → f i ≡ g i) → set (tabulate f k n) p (g q) ≡ tabulate g k n
+  tabulate-from f g k zero p q e h = refl
+  tabulate-from f g k (suc n) zero q e h =
+      let z : q ≡ k = omega arith in
+      let a : g q ≡ g k = ap g z in
+      let b = tabulate-same f g (suc k) n (λ i l. h i (λ w. omega arith)) in
+      λ j. a j ∷ b j
+  tabulate-from f g k (suc n) (suc p) q e h =
+      let a : f k ≡ g k = h k (λ w. omega arith) in
+      let b = tabulate-from f g (suc k) n p q (omega arith) h in
+      λ j. a j ∷ b j
+
+  pub tabulate-edit : (f g : ℕ → A) (n p : ℕ) → ((i : ℕ) → i ≢ p → f i ≡ g i) → set (tabulate f 0 n) p (g p) ≡ tabulate g 0 n
+  tabulate-edit f g n p h = tabulate-from f g 0 n p p (omega arith) h
+
+  pub tabulate-all : (x : A) (k n : ℕ) → replicate n x ≡ tabulate (λ i. x) k n
+  tabulate-all x k zero = refl
+  tabulate-all x k (suc n) = ap (λ (l : List A). x ∷ l) (tabulate-all x (suc k) n)
 
 -- how many numbers pass a test that only numbers from a up to below end can pass
 module _ (t : ℕ → Bool) (a end : ℕ) (inside : (i : ℕ) → t i ≡ true → (a ≤ i) × (i < end)) where
