@@ -21,9 +21,11 @@ use Rattle.distributor.specs.declared.host.Change.{Change}
 use Rattle.distributor.specs.declared.host.Change.the-variants.{Claim, ClaimTo, Release, Operate}
 use Rattle.distributor.specs.Banks.{inTable, noSlot, slotOf}
 use Rattle.distributor.specs.BankLaws.{in-range}
-use Rattle.distributor.specs.Calls.{only, size, plain, onSpi, reply, step}
+use Rattle.interrupt.specs.declared.interrupt.InterruptRecord.{InterruptRecord}
+use Rattle.distributor.specs.declared.host.InterruptAnswer.{InterruptAnswer}
+use Rattle.distributor.specs.Calls.{Question, ask, asked, only, size, plain, onSpi, reply, step}
 use Rattle.distributor.specs.declared.host.Changed.{Changed}
-use Rattle.distributor.specs.Host.{callOf, changed, changeAnswer, toldChange, Changes}
+use Rattle.distributor.specs.Host.{callOf, changed, changeAnswer, toldChange, interruptAnswer, Changes}
 use Rattle.distributor.specs.Loops.{withSlots}
 use Rattle.distributor.specs.Places.{placeAnswer}
 
@@ -107,3 +109,22 @@ module _ (d : DistributorState) (raw : ℕ) where
 
   pub changed-off : (c : Change) (r : Changed) → inTable (size d) raw ≡ false → r .state ≡ d → toldChange (r .answer) ≡ refused 1 (raw ∷ []) → Changes (callOf c raw) d r
   changed-off c r t s a = (s ∙ no-slot (changed c) t ∙ sym (step-is c), ap plain (a ∙ (rw t)) ∙ sym (reply-is c))
+
+  -- a question of an SPI that was found, or not
+  pub found : (q : Question) (r : InterruptRecord) → InterruptAnswer.Found r ≡ interruptAnswer d raw → plain (done (asked q r)) ≡ reply (ask q raw) d
+  unfolding reply
+  found q r h = go (inTable (size d) raw) refl h
+    where
+      go : (t : Bool) → inTable (size d) raw ≡ t → InterruptAnswer.Found r ≡ cond t (InterruptAnswer.Found (slotOf (d .slots) raw .interrupt)) (InterruptAnswer.Refused (InvalidIntId raw))
+          → plain (done (asked q r)) ≡ plain (cond t (done (asked q (slotOf (d .slots) raw .interrupt))) (refused 1 (raw ∷ [])))
+      go true e k = let z : r ≡ slotOf (d .slots) raw .interrupt = cc in ap (λ (x : InterruptRecord). plain (done (asked q x))) z
+      go false e k = cc
+
+  pub missed : (q : Question) (f : Refusal) → InterruptAnswer.Refused f ≡ interruptAnswer d raw → plain (toldRefusal f) ≡ reply (ask q raw) d
+  unfolding reply
+  missed q f h = go (inTable (size d) raw) refl h
+    where
+      go : (t : Bool) → inTable (size d) raw ≡ t → InterruptAnswer.Refused f ≡ cond t (InterruptAnswer.Found (slotOf (d .slots) raw .interrupt)) (InterruptAnswer.Refused (InvalidIntId raw))
+          → plain (toldRefusal f) ≡ plain (cond t (done (asked q (slotOf (d .slots) raw .interrupt))) (refused 1 (raw ∷ [])))
+      go true e k = cc
+      go false e k = let z : f ≡ InvalidIntId raw = cc in ap (λ (x : Refusal). plain (toldRefusal x)) z

@@ -7,6 +7,7 @@ pub mod Loops
 pub mod Told
 pub mod Host
 pub mod Create
+pub mod Questions
 pub mod Names
 pub mod Board
 pub mod IdentityLaws

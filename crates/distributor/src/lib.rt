@@ -8,4 +8,5 @@ pub mod distributor;
 pub mod host;
 pub mod identity;
 pub mod place;
+pub mod questions;
 pub mod register;
