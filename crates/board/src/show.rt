@@ -1,0 +1,52 @@
+// What a call answered, as words.
+use distributor::access::ReadAnswer;
+use distributor::access::WriteAnswer;
+use interrupt::error::Refusal;
+use libc::STDOUT_FILENO;
+
+pub fn text(words: &[u8]) {
+    io::write_all(STDOUT_FILENO, words);
+}
+
+pub fn decimal(n: u64) {
+    io::print_decimal(STDOUT_FILENO, n);
+}
+
+pub fn place(intid: u32) {
+    decimal(intid as u64);
+}
+
+pub fn refusal(refusal: Refusal) {
+    text(b" refused ");
+    match refusal {
+        Refusal::InvalidIntId(raw) => {
+            text(b"1 (");
+            decimal(raw as u64);
+            text(b")");
+        }
+        Refusal::ResourceConflict => text(b"2"),
+        Refusal::InvalidAccess => text(b"3"),
+        Refusal::InvalidWidth => text(b"4"),
+        Refusal::ShortList => text(b"5"),
+    }
+}
+
+pub fn read(answer: ReadAnswer) {
+    match answer {
+        ReadAnswer::Value(v) => {
+            text(b" 0x");
+            io::print_hex(STDOUT_FILENO, v, 1);
+        }
+        ReadAnswer::Refused(f) => refusal(f),
+    }
+}
+
+pub fn written(answer: WriteAnswer) {
+    match answer {
+        WriteAnswer::Listed(n) => {
+            text(b" done, lists ");
+            decimal(n as u64);
+        }
+        WriteAnswer::Refused(f) => refusal(f),
+    }
+}
