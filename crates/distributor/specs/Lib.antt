@@ -11,3 +11,6 @@ pub mod MapLaws
 pub mod ReadLaws
 pub mod BankLaws
 pub mod Replies
+pub mod OrderFacts
+pub mod ReplyFacts
+pub mod Order
