@@ -14,3 +14,4 @@ pub mod Replies
 pub mod OrderFacts
 pub mod ReplyFacts
 pub mod Order
+pub mod Isolation
