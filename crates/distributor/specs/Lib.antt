@@ -15,3 +15,5 @@ pub mod OrderFacts
 pub mod ReplyFacts
 pub mod Order
 pub mod Isolation
+pub mod OrderExamples
+pub mod IsolationExamples

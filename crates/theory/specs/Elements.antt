@@ -6,7 +6,7 @@ use mathlib.Core.Option.{Option, some, Option·map, Option·none-ne-some, Option
 use native.Mathlib.Nat.{zero-lt-suc}
 use native.Mathlib.Omega.{arith}
 use lib.ListN.{length, getD, getElem?}
-use Rattle.theory.specs.Places.{mapFrom, mapAt}
+use Rattle.theory.specs.Places.{mapFrom, mapAt, tabulate}
 
 module _ {A : Type 0} where
   pub at-some : (l : List A) (i : ℕ) (x : A) → getElem? l i ≡ some x → i < length l
@@ -41,3 +41,9 @@ module _ {A : Type 0} where
 
   pub at-mapAt : (f : ℕ → A → A) (l : List A) (i : ℕ) → getElem? (mapAt f l) i ≡ Option·map (f i) (getElem? l i)
   at-mapAt f l i = at-mapFrom f 0 l i i (omega arith)
+
+  -- what stands in a tabulated list
+  pub at-tabulate : (f : ℕ → A) (k n i : ℕ) (x : A) → getElem? (tabulate f k n) i ≡ some x → f (k + i) ≡ x
+  at-tabulate f k zero i x e = absurd (Option·none-ne-some x e)
+  at-tabulate f k (suc n) zero x e = let z : k + 0 ≡ k = omega arith in rw z (Option·some-injective (f k) x e)
+  at-tabulate f k (suc n) (suc i) x e = let z : k + suc i ≡ suc k + i = omega arith in rw z (at-tabulate f (suc k) n i x e)
