@@ -11,6 +11,7 @@ pub mod MapLaws
 pub mod ReadLaws
 pub mod BankLaws
 pub mod Replies
+pub mod Refusals
 pub mod OrderFacts
 pub mod ReplyFacts
 pub mod Order

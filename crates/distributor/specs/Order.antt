@@ -13,7 +13,7 @@ use Rattle.distributor.specs.Banks.{slotOf}
 use Rattle.distributor.specs.BankLaws.{in-range}
 use Rattle.distributor.specs.Calls.{Call, size, created, step, reply}
 use Rattle.distributor.specs.Names.{Name, theSwitch, spi, names}
-use Rattle.distributor.specs.OrderFacts.{held, keeps, state, local-state, whole-state, named-in, slot-same}
+use Rattle.distributor.specs.OrderFacts.{held, keeps, state, local-state, whole-state, slot-same}
 use Rattle.distributor.specs.ReplyFacts.{reply-rests}
 
 -- what a call names, by the settings and the count of a Distributor, which no call changes
@@ -59,7 +59,7 @@ module _ (c : ControllerConfig) (n : ℕ) where
         told = λ k d e okd oke h.
             ap (reply k) (settled d okd)
             ∙ reply-rests c n (d .enabled) (e .enabled) (d .slots) (e .slots) k (h theSwitch)
-            (λ i t. slot-same (d .slots) (e .slots) i (in-range (min n 988) i (named-in c (min n 988) k i t) .0) (h (spi i) t))
+            (λ i t inside. slot-same (d .slots) (e .slots) i (in-range (min n 988) i inside .0) (h (spi i) t))
             ∙ sym (ap (reply k) (settled e oke));
         whole = λ d e okd oke h.
             settled d okd

@@ -2,27 +2,23 @@
 -- rests on what it names; the names hold all of the state.
 use Prim.Native.Nat.{ℕ, _+_, _-_, _≤_, min}
 use mathlib.Core.Path.{_≡_, refl, sym, ap, _∙_}
-use mathlib.Core.Bool.{Bool, true, false, _&&_, cond, true≢false, false≢true}
+use mathlib.Core.Bool.{Bool, true, false, cond, true≢false}
 use mathlib.Core.List.{List}
 use mathlib.Core.Option.{Option, none, some, Option·map}
 use native.Mathlib.Omega.{arith}
 use borrow.Author.Tests.{leb-true, le-leb}
 use lib.Dec.{leb}
 use lib.ListN.{getElem?}
-use Rattle.theory.specs.Bools.{both}
 use Rattle.theory.specs.Elements.{at-getD, at-all, at-mapAt}
-use Rattle.interrupt.specs.Answer.{within}
 use Rattle.distributor.specs.declared.controller.ControllerConfig.{ControllerConfig}
 use Rattle.distributor.specs.declared.bank.Slot.{Slot}
 use Rattle.distributor.specs.declared.distributor.DistributorState.{DistributorState}
 use Rattle.distributor.specs.declared.register.Register.the-variants.{Identification, Ctlr, Typer, Iidr, Fields, Reserved}
 use Rattle.distributor.specs.declared.register.Access.{Access}
 use Rattle.distributor.specs.declared.register.Access.the-variants.{To, Refused}
-use Rattle.distributor.specs.declared.register.Direction.the-variants.{Reading}
-use Rattle.distributor.specs.Registers.{decode}
-use Rattle.distributor.specs.Banks.{noSlot, inTable, slotOf}
-use Rattle.distributor.specs.Calls.{Call, create, read, write, isEnabled, rollback, claimSoftware, claimPhysical, release, operate, ask, size, writeAccess, switchBit, writtenAt, after, switched, switch, step}
-use Rattle.distributor.specs.Names.{Name, theSwitch, spi, readNames, writeNames, names}
+use Rattle.distributor.specs.Banks.{noSlot, slotOf}
+use Rattle.distributor.specs.Calls.{Call, create, read, write, isEnabled, rollback, claimSoftware, claimPhysical, release, operate, ask, size, writeAccess, writtenAt, after, switched, switch, step}
+use Rattle.distributor.specs.Names.{Name, theSwitch, spi, writeNames, names}
 
 -- ---- what is held under a name
 
@@ -142,40 +138,6 @@ module _ (c : ControllerConfig) (n : ℕ) where
       let p : on ≡ on′ = h theSwitch in
       let q : l ≡ l′ = slots-same l l′ (λ i. h (spi i)) in
       λ j. state c n (p j) (q j)
-
--- ---- a call names no SPI outside the table
-
-module _ (c : ControllerConfig) (n : ℕ) where
-  read-in : (a : Access) (i : ℕ) → readNames c n a (spi i) ≡ true → inTable n i ≡ true
-  read-in (Refused f) i e = absurd (false≢true e)
-  read-in (To (Identification k)) i e = absurd (false≢true e)
-  read-in (To Ctlr) i e = absurd (false≢true e)
-  read-in (To Typer) i e = absurd (false≢true e)
-  read-in (To Iidr) i e = absurd (false≢true e)
-  read-in (To (Fields b lo m)) i e = both (within lo (lo + m) i) _ e .1
-  read-in (To Reserved) i e = absurd (false≢true e)
-
-  write-in : (a : Access) (v i : ℕ) → writeNames c n a v (spi i) ≡ true → inTable n i ≡ true
-  write-in (Refused f) v i e = absurd (false≢true e)
-  write-in (To (Identification k)) v i e = absurd (false≢true e)
-  write-in (To Ctlr) v i e = both (switchBit v) _ e .1
-  write-in (To Typer) v i e = absurd (false≢true e)
-  write-in (To Iidr) v i e = absurd (false≢true e)
-  write-in (To (Fields b lo m)) v i e = both (within lo (lo + m) i) _ (both (within lo (lo + m) i && inTable n i) _ e .0) .1
-  write-in (To Reserved) v i e = absurd (false≢true e)
-
-  pub named-in : (k : Call) (i : ℕ) → names c n k (spi i) ≡ true → inTable n i ≡ true
-  unfolding names
-  named-in (create d m) i e = absurd (false≢true e)
-  named-in (read offset w) i e = read-in (decode Reading (c .«distributor_size») offset w) i e
-  named-in (write offset w v list) i e = write-in (writeAccess c n offset w list) v i e
-  named-in isEnabled i e = absurd (false≢true e)
-  named-in (rollback to) i e = absurd (false≢true e)
-  named-in (claimSoftware raw) i e = both (inTable n i) _ e .0
-  named-in (claimPhysical raw a) i e = both (inTable n i) _ e .0
-  named-in (release raw) i e = both (inTable n i) _ e .0
-  named-in (operate o raw) i e = both (inTable n i) _ e .0
-  named-in (ask q raw) i e = both (inTable n i) _ e .0
 
 -- what is held under an SPI's name is its slot
 pub slot-same : (l l′ : List Slot) (i : ℕ) → 32 ≤ i → slotAt l i ≡ slotAt l′ i → slotOf l i ≡ slotOf l′ i

@@ -5,8 +5,9 @@ use mathlib.Core.Bool.{Bool, true, false, _&&_, cond}
 use mathlib.Core.List.{List, [], _∷_}
 use borrow.Author.Tests.{le-leb, lt-ltb, eq-eqb}
 use lib.Dec.{leb, eqb}
+use Rattle.theory.specs.Bools.{both}
 use Rattle.theory.specs.Places.{passing}
-use Rattle.theory.specs.PlaceLaws.{passing-same}
+use Rattle.theory.specs.PlaceLaws.{passing-agree}
 use Rattle.interrupt.specs.Answer.{Answer, done, refused, within}
 use Rattle.interrupt.specs.Life.{deliverableIn}
 use Rattle.distributor.specs.declared.controller.ControllerConfig.{ControllerConfig}
@@ -30,9 +31,9 @@ covered lo m i p q = let e : leb lo i ≡ true = le-leb lo i p in rw e (lt-ltb i
 
 -- two tables, each with its switch
 module _ (c : ControllerConfig) (n : ℕ) (l l′ : List Slot) where
-  -- the slots that a test picks are the same in both
+  -- the SPIs of the table that a test picks have the same slot in both
   abbrev Same : (ℕ → Bool) → Type 0
-  Same t = (i : ℕ) → t i ≡ true → slotOf l i ≡ slotOf l′ i
+  Same t = (i : ℕ) → t i ≡ true → inTable n i ≡ true → slotOf l i ≡ slotOf l′ i
 
   value-same : (b : Bank) (lo m : ℕ) → Same (λ i. within lo (lo + m) i && inTable n i) → bankValue c n b lo m l ≡ bankValue c n b lo m l′
   value-same b lo m h = packed-same b (showing c n b l) (showing c n b l′) lo m (λ i p q. there i (covered lo m i p q))
@@ -44,11 +45,11 @@ module _ (c : ControllerConfig) (n : ℕ) (l l′ : List Slot) where
           show t s = cond (t && owned c s) (shown b (s .interrupt)) 0
 
           go : (t : Bool) → inTable n i ≡ t → show t (slotOf l i) ≡ show t (slotOf l′ i)
-          go true q = ap (show true) (h i (rw (e, q)))
+          go true q = ap (show true) (h i (rw (e, q)) q)
           go false q = refl
 
   candidates-same : (b : Bank) (v lo m : ℕ) → Same (reaches c n b v lo m) → bankCandidates c n b v lo m l ≡ bankCandidates c n b v lo m l′
-  candidates-same b v lo m h = passing-same (candidate c n b v lo m l) (candidate c n b v lo m l′) lo m (λ i p q. go i (reaches c n b v lo m i) refl)
+  candidates-same b v lo m h = passing-agree (candidate c n b v lo m l) (candidate c n b v lo m l′) lo m (λ i p q. go i (reaches c n b v lo m i) refl)
     where
       test : ℕ → Bool → Slot → Bool
       test i t s = lists b && t && owned c s && deliverableIn (bankSlot c n b v lo m i s .interrupt)
@@ -58,11 +59,11 @@ module _ (c : ControllerConfig) (n : ℕ) (l l′ : List Slot) where
       unlisted false y z = refl
 
       go : (i : ℕ) (t : Bool) → reaches c n b v lo m i ≡ t → test i t (slotOf l i) ≡ test i t (slotOf l′ i)
-      go i true q = ap (test i true) (h i q)
+      go i true q = ap (test i true) (h i q (both (within lo (lo + m) i) _ (both (within lo (lo + m) i && inTable n i) _ q .0) .1))
       go i false q = rw (unlisted, unlisted)
 
   deliverable-same : Same (inTable n) → passing (deliverableAt l) 32 n ≡ passing (deliverableAt l′) 32 n
-  deliverable-same h = passing-same (deliverableAt l) (deliverableAt l′) 32 n (λ i p q. ap (λ (s : Slot). deliverableIn (s .interrupt)) (h i (covered 32 n i p q)))
+  deliverable-same h = passing-agree (deliverableAt l) (deliverableAt l′) 32 n (λ i p q. let inside = covered 32 n i p q in ap (λ (s : Slot). deliverableIn (s .interrupt)) (h i inside inside))
 
 -- two states with the same settings and count
 module _ (c : ControllerConfig) (count : ℕ) (on on′ : Bool) (l l′ : List Slot) where
@@ -104,7 +105,7 @@ module _ (c : ControllerConfig) (count : ℕ) (on on′ : Bool) (l l′ : List S
   host-rests raw f h = go (inTable n raw) refl
     where
       go : (t : Bool) → inTable n raw ≡ t → plain (cond t (f (slotOf l raw)) (refused 1 (raw ∷ []))) ≡ plain (cond t (f (slotOf l′ raw)) (refused 1 (raw ∷ [])))
-      go true q = let e : eqb raw raw ≡ true = eq-eqb raw raw refl in ap (λ (s : Slot). plain (f s)) (h raw (rw (q, e)))
+      go true q = let e : eqb raw raw ≡ true = eq-eqb raw raw refl in ap (λ (s : Slot). plain (f s)) (h raw (rw (q, e)) q)
       go false q = refl
 
   pub reply-rests : (k : Call) → (names c n k theSwitch ≡ true → on ≡ on′) → Same c n l l′ (λ i. names c n k (spi i)) → reply k d ≡ reply k d′

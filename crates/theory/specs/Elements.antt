@@ -14,6 +14,11 @@ module _ {A : Type 0} where
   at-some (y ∷ ys) zero x e = zero-lt-suc _
   at-some (y ∷ ys) (suc i) x e = suc-le-suc (at-some ys i x e)
 
+  pub at-holds : (l : List A) (i : ℕ) (d x : A) → getElem? l i ≡ some x → getD l i d ≡ x
+  at-holds [] i d x e = absurd (Option·none-ne-some x e)
+  at-holds (y ∷ ys) zero d x e = Option·some-injective y x e
+  at-holds (y ∷ ys) (suc i) d x e = at-holds ys i d x e
+
   -- two lists with the same at a place have the same there with a default
   pub at-getD : (l m : List A) (i : ℕ) (d : A) → getElem? l i ≡ getElem? m i → getD l i d ≡ getD m i d
   at-getD [] [] i d e = refl

@@ -7,3 +7,4 @@ pub mod Runs
 pub mod Reorder
 pub mod Footprint
 pub mod Matchings
+pub mod Forgetful
