@@ -14,7 +14,7 @@ use Rattle.theory.specs.Elements.{at-tabulate}
 use Rattle.theory.specs.Runs.{run, answers, Share, Matching}
 use Rattle.theory.specs.Matchings.{swap, reversal}
 use Rattle.interrupt.specs.Answer.{done, refused, within}
-use Rattle.interrupt.specs.Life.{fresh, enabledTo, routeTo}
+use Rattle.interrupt.specs.Life.{fresh, deliverableIn, enabledTo, routeTo}
 use Rattle.interrupt.specs.declared.operation.Operation.{Operation}
 use Rattle.interrupt.specs.declared.operation.Operation.the-variants.{SetEnabled}
 use Rattle.distributor.specs.declared.distributor.DistributorState.{DistributorState}
@@ -22,7 +22,7 @@ use Rattle.distributor.specs.declared.register.AccessWidth.the-variants.
 use Rattle.distributor.specs.Registers.{decode}
 use Rattle.distributor.specs.Banks.{inTable}
 use Rattle.distributor.specs.BankLaws.{in-range}
-use Rattle.distributor.specs.Calls.{Call, read, write, isEnabled, rollback, release, operate, ask, enabled, step, reply, plain, size}
+use Rattle.distributor.specs.Calls.{Call, create, read, write, isEnabled, rollback, release, operate, ask, enabled, step, reply, plain, size}
 use Rattle.distributor.specs.Names.{theSwitch, spi, names}
 use Rattle.distributor.specs.Board.{K}
 use Rattle.distributor.specs.Order.{named, ordered}
@@ -35,6 +35,10 @@ writes offset v = write offset Dword v (replicate 40 0)
 -- the SPIs that a call names
 abbrev spis : Call → List ℕ
 spis k = passing (λ i. named K k (spi i)) 0 1024
+
+-- the SPIs, and whether it names the switch
+abbrev namesOf : Call → List ℕ × Bool
+namesOf k = (spis k, named K k theSwitch)
 
 -- m INTIDs from lo on
 abbrev from : ℕ → ℕ → List ℕ
@@ -52,7 +56,9 @@ pub record NamedOnK : Type 0 where
   pub refused-3-4-5 : (spis (read 0x106 Dword) ≡ []) × (spis (read 0x104 Byte) ≡ []) × (spis (write 0x104 Dword 2 (replicate 39 0)) ≡ [])
   pub control : (spis (writes 0 2) ≡ from 32 40) × (spis (writes 0 1) ≡ []) × (spis (read 0 Dword) ≡ [])
   pub switch : (named K (writes 0 2) theSwitch ≡ true) × (named K (writes 0 1) theSwitch ≡ true) × (named K (read 0 Dword) theSwitch ≡ true) × (named K isEnabled theSwitch ≡ true) × (named K (rollback true) theSwitch ≡ true)
-  pub other : (named K (read 0x104 Dword) theSwitch ≡ false) × (named K (writes 0x104 2) theSwitch ≡ false) × (named K (read 0 Byte) theSwitch ≡ false)
+  pub no-switch : (named K (read 0x104 Dword) theSwitch ≡ false) × (named K (writes 0x104 2) theSwitch ≡ false) × (named K (read 0 Byte) theSwitch ≡ false)
+  -- TYPER, an offset with no register, and the creation of another Distributor
+  pub rest : (namesOf (read 0x4 Dword) ≡ ([], false)) × (namesOf (writes 0x800 2) ≡ ([], false)) × (namesOf (create (K .config) 988) ≡ ([], false))
 
 pub named-on-K : NamedOnK
 unfolding names step decode
@@ -68,7 +74,8 @@ named-on-K =
       refused-3-4-5 = (refl, refl, refl);
       control = (refl, refl, refl);
       switch = (refl, refl, refl, refl, refl);
-      other = (refl, refl, refl);
+      no-switch = (refl, refl, refl);
+      rest = (refl, refl, refl);
     }
 
 -- ---- calls that may change places
@@ -98,7 +105,7 @@ backward d o n =
 pub backward-same : (d : DistributorState) (o : ℕ → Operation) (n : ℕ) → run step (each o n) d ≡ run step (reverse (each o n)) d
 backward-same d o n = ordered d .reordering (each o n) (reverse (each o n)) (backward d o n) .0
 
--- two writes to one register of flags, each with a bit of its own, may be swapped: 33 and 34 enabled, then any calls
+-- an SPI that the two writes below would share
 abbrev bothName : ℕ → Bool
 bothName i = named K (writes 0x104 2) (spi i) && named K (writes 0x104 4) (spi i)
 
@@ -114,6 +121,7 @@ bits-apart (spi i, p, q) =
     joined : {a b : Bool} → a ≡ true → b ≡ true → (a && b) ≡ true
     joined p q = rw (p, q)
 
+-- two writes to one register of flags, each with a bit of its own, may be swapped: 33 and 34 enabled, then any calls
 pub swapped : (calls : List Call) → Matching (named K) (writes 0x104 2 ∷ writes 0x104 4 ∷ calls) (writes 0x104 4 ∷ writes 0x104 2 ∷ calls)
 swapped calls = swap (named K) (writes 0x104 2) (writes 0x104 4) calls bits-apart
 
@@ -144,5 +152,5 @@ unmatched m =
 -- a write that is refused 1 counts: before it 64 and 65 read as disabled, after it as enabled
 pub refused-matters : (answers step reply (read 0x108 Dword ∷ writes 0x108 0x1ff ∷ read 0x108 Dword ∷ []) K
     ≡ plain (done (0 ∷ [])) ∷ record { answer = refused 1 (72 ∷ []); list = replicate 40 0 } ∷ plain (done (3 ∷ [])) ∷ [])
-unfolding step reply decode fresh enabledTo routeTo
+unfolding step reply decode fresh deliverableIn enabledTo routeTo
 refused-matters = refl

@@ -13,10 +13,11 @@ use Rattle.theory.specs.Elements.{at-getD, at-all, at-mapAt}
 use Rattle.distributor.specs.declared.controller.ControllerConfig.{ControllerConfig}
 use Rattle.distributor.specs.declared.bank.Slot.{Slot}
 use Rattle.distributor.specs.declared.distributor.DistributorState.{DistributorState}
+use Rattle.distributor.specs.declared.register.Bank.{Bank}
 use Rattle.distributor.specs.declared.register.Register.the-variants.{Identification, Ctlr, Typer, Iidr, Fields, Reserved}
 use Rattle.distributor.specs.declared.register.Access.{Access}
 use Rattle.distributor.specs.declared.register.Access.the-variants.{To, Refused}
-use Rattle.distributor.specs.Banks.{noSlot, slotOf}
+use Rattle.distributor.specs.Banks.{noSlot, slotOf, reaches, bankSlot}
 use Rattle.distributor.specs.Calls.{Call, create, read, write, isEnabled, rollback, claimSoftware, claimPhysical, release, operate, ask, size, writeAccess, writtenAt, after, switched, switch, step}
 use Rattle.distributor.specs.Names.{Name, theSwitch, spi, writeNames, names}
 
@@ -59,13 +60,16 @@ module _ (c : ControllerConfig) (n : ℕ) where
   switch-kept (operate o raw) on e = refl
   switch-kept (ask q raw) on e = refl
 
+  unreached : (b : Bank) (v lo m i : ℕ) (s : Slot) → reaches c n b v lo m i ≡ false → bankSlot c n b v lo m i s ≡ s
+  unreached b v lo m i s e = rw e
+
   write-slot : (a : Access) (v i : ℕ) (s : Slot) → writeNames c n a v (spi i) ≡ false → writtenAt c n a v i s ≡ s
   write-slot (Refused f) v i s e = refl
   write-slot (To (Identification k)) v i s e = refl
   write-slot (To Ctlr) v i s e = refl
   write-slot (To Typer) v i s e = refl
   write-slot (To Iidr) v i s e = refl
-  write-slot (To (Fields b lo m)) v i s e = rw e
+  write-slot (To (Fields b lo m)) v i s e = unreached b v lo m i s e
   write-slot (To Reserved) v i s e = refl
 
   slot-kept : (k : Call) (i : ℕ) (s : Slot) → names c n k (spi i) ≡ false → after c n k i s ≡ s
