@@ -8,7 +8,6 @@ pub mod Told
 pub mod Host
 pub mod Create
 pub mod Questions
-pub mod Names
 pub mod Board
 pub mod IdentityLaws
 pub mod MapLaws

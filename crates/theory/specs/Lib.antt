@@ -2,3 +2,9 @@ pub mod Bools
 pub mod Places
 pub mod PlaceLaws
 pub mod MapLaws
+pub mod Elements
+pub mod Runs
+pub mod Reorder
+pub mod Footprint
+pub mod Matchings
+pub mod Forgetful

@@ -37,6 +37,17 @@ module _ {A : Type 0} where
   pub getD-mapAt : (f : ℕ → A → A) (i : ℕ) (l : List A) (d : A) → ((x : A) → f i x ≡ x) → getD (mapAt f l) i d ≡ getD l i d
   getD-mapAt f i l d h = let e : 0 + i ≡ i = omega arith in getD-mapFrom f 0 i l d (λ x. ap (λ (j : ℕ). f j x) e ∙ h x)
 
+  relates-mapFrom : (R : A → A → Type 0) (f : ℕ → A → A) (k i j : ℕ) (l : List A) (d : A) → j ≡ k + i
+      → R d d → R (getD l i d) (f j (getD l i d)) → R (getD l i d) (getD (mapFrom f k l) i d)
+  relates-mapFrom R f k i j [] d e past here = past
+  relates-mapFrom R f k zero j (x ∷ xs) d e past here = let z : j ≡ k = omega arith in rw z at here
+  relates-mapFrom R f k (suc i) j (x ∷ xs) d e past here = relates-mapFrom R f (suc k) i j xs d (omega arith) past here
+
+  -- how a place is related to what a map makes of it: as its element is, or past the end the default
+  pub relates-mapAt : (R : A → A → Type 0) (f : ℕ → A → A) (i : ℕ) (l : List A) (d : A)
+      → R d d → R (getD l i d) (f i (getD l i d)) → R (getD l i d) (getD (mapAt f l) i d)
+  relates-mapAt R f i l d past here = relates-mapFrom R f 0 i i l d (omega arith) past here
+
   mapFrom-edit : (f g : ℕ → A → A) (h : A → A) (d : A) (k p q : ℕ) (l : List A) → q ≡ k + p
       → ((x : A) → h (f q x) ≡ g q x) → ((i : ℕ) (x : A) → i ≢ q → f i x ≡ g i x)
       → set (mapFrom f k l) p (h (getD (mapFrom f k l) p d)) ≡ mapFrom g k l

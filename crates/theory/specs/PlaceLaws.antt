@@ -79,6 +79,14 @@ passing-most t k (suc n) = go (t k) (passing-most t (suc k) n)
     go true h = omega arith
     go false h = omega arith
 
+-- two tests that agree on the numbers that are tried
+pub passing-agree : (t u : ℕ → Bool) (k n : ℕ) → ((i : ℕ) → k ≤ i → i < k + n → t i ≡ u i) → passing t k n ≡ passing u k n
+passing-agree t u k zero h = refl
+passing-agree t u k (suc n) h =
+    let here : t k ≡ u k = h k (omega arith) (omega arith) in
+    let rest : passing t (suc k) n ≡ passing u (suc k) n = passing-agree t u (suc k) n (λ i p q. h i (omega arith) (omega arith)) in
+    rw (here, rest)
+
 -- one number more, at the end
 pub passing-more : (t : ℕ → Bool) (k n : ℕ) → passing t k (suc n) ≡ passing t k n ++ cond (t (k + n)) ((k + n) ∷ []) []
 passing-more t k zero = rw (add-zero k)

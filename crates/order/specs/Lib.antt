@@ -1,0 +1,8 @@
+pub mod Names
+pub mod Refusals
+pub mod OrderFacts
+pub mod ReplyFacts
+pub mod Order
+pub mod Isolation
+pub mod OrderExamples
+pub mod IsolationExamples
