@@ -6,3 +6,4 @@ pub mod Order
 pub mod Isolation
 pub mod OrderExamples
 pub mod IsolationExamples
+pub mod Corners

@@ -27,7 +27,7 @@ use Rattle.order.specs.Names.{theSwitch, spi, names}
 use Rattle.distributor.specs.Board.{K}
 use Rattle.order.specs.Order.{named, ordered}
 
-abbrev writes : ℕ → ℕ → Call
+abbrev pub writes : ℕ → ℕ → Call
 writes offset v = write offset Dword v (replicate 40 0)
 
 -- ---- what calls on K name

@@ -1,4 +1,4 @@
--- A refused call changes nothing, save a guest write that was refused for running beyond the table.
+-- A refused call changes nothing, save a guest write that was refused for running beyond the table; nor does a call that only asks.
 use Prim.Native.Nat.{ℕ, _+_, _-_}
 use mathlib.Core.Path.{_≡_, refl, sym, ap, _∙_}
 use mathlib.Core.Bool.{Bool, true, false, _&&_, cond, true≢false}
@@ -32,6 +32,19 @@ ranBeyond (release raw) r = false
 ranBeyond (operate o raw) r = false
 ranBeyond (ask q raw) r = false
 
+-- a call that only asks
+abbrev pub asks : Call → Bool
+asks (create d m) = false
+asks (read offset w) = true
+asks (write offset w v list) = false
+asks isEnabled = true
+asks (rollback on) = false
+asks (claimSoftware raw) = false
+asks (claimPhysical raw a) = false
+asks (release raw) = false
+asks (operate o raw) = false
+asks (ask q raw) = true
+
 never : {A : Type 0} (vs ws : List ℕ) (r : ℕ) → done vs ≡ refused r ws → A
 never vs ws r e = let z : _≡_ {A = ℕ} 0 1 = cc in absurd (omega arith)
 
@@ -50,6 +63,18 @@ module _ (d : DistributorState) where
       there : (p : ℕ) (o : Option Slot) → getElem? (d .slots) p ≡ o → Option·map (f p) o ≡ o
       there p none e = refl
       there p (some s) e = ap {B = Option Slot} some (kept p s e)
+
+  pub asking-still : (k : Call) → asks k ≡ true → step k d ≡ d
+  asking-still (create c m) e = absurd (true≢false (sym e))
+  asking-still (read offset w) e = still (read offset w) refl (λ p s at. refl)
+  asking-still (write offset w v list) e = absurd (true≢false (sym e))
+  asking-still isEnabled e = still isEnabled refl (λ p s at. refl)
+  asking-still (rollback on) e = absurd (true≢false (sym e))
+  asking-still (claimSoftware raw) e = absurd (true≢false (sym e))
+  asking-still (claimPhysical raw a) e = absurd (true≢false (sym e))
+  asking-still (release raw) e = absurd (true≢false (sym e))
+  asking-still (operate o raw) e = absurd (true≢false (sym e))
+  asking-still (ask q raw) e = still (ask q raw) refl (λ p s at. refl)
 
   module _ (r : ℕ) (ws : List ℕ) where
     -- a host call: on an SPI outside the table, or answered with a refusal that leaves the slot
