@@ -1,16 +1,16 @@
 // The board's examples, run on the code: the twelve cases on K, and those that are run besides. What is printed is held to the file
 // stdout beside src/.
 use distributor::access::ReadAnswer;
-use distributor::controller::ControllerConfig;
-use distributor::controller::GicV3SpiOwnership;
 use distributor::create::CreateAnswer;
 use distributor::create::Created;
 use distributor::distributor::DistributorState;
 use distributor::questions::Flag;
-use distributor::register::AccessWidth;
 use interrupt::types::GicAffinity;
 use interrupt::types::SpiId;
 use interrupt::types::SpiIdAnswer;
+use registers::controller::ControllerConfig;
+use registers::controller::GicV3SpiOwnership;
+use registers::register::AccessWidth;
 
 mod show;
 

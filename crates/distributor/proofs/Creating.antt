@@ -1,20 +1,21 @@
 -- The making of a table, a record at a time.
 use Prim.Native.Nat.{ℕ, _+_, _≤_, _<_}
-use mathlib.Core.Path.{_≡_, refl, sym, ap, _∙_}
+use mathlib.Core.Path.{_≡_, refl, ap, _∙_}
 use mathlib.Core.Logic.{_≢_, by-cases}
 use mathlib.Core.Bool.{Bool, true, false, cond}
 use mathlib.Core.List.{List, [], _∷_}
 use native.Mathlib.Omega.{arith}
 use native.Mathlib.Decide.{decLt}
-use borrow.Author.Tests.{leb-true, ltb-true, leb-false, ltb-false, lt-ltb, le-ltb, le-leb, lt-leb}
+use borrow.Author.Tests.{ltb-true, ltb-false, lt-ltb, le-ltb, le-leb, lt-leb}
 use lib.Dec.{leb, ltb}
 use lib.ListN.{set, replicate}
 use Rattle.theory.specs.Bools.{both}
 use Rattle.theory.specs.Places.{tabulate}
 use Rattle.theory.specs.PlaceLaws.{tabulate-edit, tabulate-all}
-use Rattle.interrupt.specs.Answer.{Answer, done, refused, within, idAnswer, toldRefusal}
-use Rattle.distributor.specs.declared.bank.Slot.{Slot}
-use Rattle.distributor.specs.Calls.{freshSpi, freshSlot, createAnswer}
+use Rattle.interrupt.specs.Answer.{Answer, done, refused, within, idAnswer}
+use Rattle.slot.specs.declared.slot.Slot.{Slot}
+use Rattle.slot.specs.Slots.{freshSpi}
+use Rattle.distributor.specs.Calls.{freshSlot}
 
 -- before the first record every place is the first SPI's
 pub none-made : replicate 988 (freshSpi 32) ≡ tabulate (freshSlot 0) 0 988

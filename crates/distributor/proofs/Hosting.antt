@@ -1,5 +1,5 @@
 -- A change of one SPI is a map of the table.
-use Prim.Native.Nat.{ℕ, _+_, _-_, _≤_, _<_}
+use Prim.Native.Nat.{ℕ, _+_, _-_}
 use mathlib.Core.Path.{_≡_, refl, sym, ap, _∙_}
 use mathlib.Core.Logic.{_≢_, by-cases}
 use mathlib.Core.Bool.{Bool, true, false, _&&_, cond}
@@ -11,23 +11,25 @@ use lib.Dec.{eqb}
 use lib.ListN.{getD, set}
 use Rattle.theory.specs.Places.{mapAt}
 use Rattle.theory.specs.MapLaws.{mapAt-edit, mapAt-still}
-use Rattle.interrupt.specs.Answer.{Answer, done, refused, toldRefusal}
+use Rattle.interrupt.specs.Answer.{done, refused, toldRefusal}
 use Rattle.interrupt.specs.AnswerLaws.{told-refusal}
 use Rattle.interrupt.specs.declared.error.Refusal.{Refusal}
 use Rattle.interrupt.specs.declared.error.Refusal.the-variants.{InvalidIntId}
-use Rattle.distributor.specs.declared.bank.Slot.{Slot}
+use Rattle.slot.specs.declared.slot.Slot.{Slot}
 use Rattle.distributor.specs.declared.distributor.DistributorState.{DistributorState}
-use Rattle.distributor.specs.declared.host.Change.{Change}
-use Rattle.distributor.specs.declared.host.Change.the-variants.{Claim, ClaimTo, Release, Operate}
-use Rattle.distributor.specs.Banks.{inTable, noSlot, slotOf}
-use Rattle.distributor.specs.BankLaws.{in-range}
+use Rattle.slot.specs.declared.change.Change.{Change}
+use Rattle.slot.specs.declared.change.Change.the-variants.{Claim, ClaimTo, Release, Operate}
+use Rattle.registers.specs.Banks.{inTable}
+use Rattle.slot.specs.BankRule.{noSlot, slotOf}
+use Rattle.registers.specs.BankLaws.{in-range}
 use Rattle.interrupt.specs.declared.interrupt.InterruptRecord.{InterruptRecord}
 use Rattle.distributor.specs.declared.host.InterruptAnswer.{InterruptAnswer}
 use Rattle.distributor.specs.Calls.{Question, ask, asked, only, size, plain, onSpi, reply, step}
 use Rattle.distributor.specs.declared.host.Changed.{Changed}
-use Rattle.distributor.specs.Host.{callOf, changed, changeAnswer, toldChange, interruptAnswer, Changes}
+use Rattle.slot.specs.Changes.{changed, changeAnswer, toldChange}
+use Rattle.distributor.specs.Host.{callOf, interruptAnswer, Changes}
 use Rattle.distributor.specs.Loops.{withSlots}
-use Rattle.distributor.specs.Places.{placeAnswer}
+use Rattle.registers.specs.Places.{placeAnswer}
 
 module _ (d : DistributorState) (raw : ℕ) where
   -- what a place answer says

@@ -1,10 +1,6 @@
 pub mod Creating
-pub mod Digits
 pub mod Hosting
 pub mod Listing
 pub mod Reading
-pub mod Refusing
 pub mod Replying
-pub mod Rows
-pub mod Widths
 pub mod Writing

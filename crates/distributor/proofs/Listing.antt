@@ -1,16 +1,16 @@
 -- Loops that note candidates: one number more.
-use Prim.Native.Nat.{ℕ, suc, _+_, _-_, _≤_, _<_}
+use Prim.Native.Nat.{ℕ, _+_, _-_, _≤_, _<_}
 use mathlib.Core.Path.{_≡_, refl, sym, ap, _∙_}
 use mathlib.Core.Bool.{Bool, true, false, cond}
 use mathlib.Core.List.{List, [], _∷_, _++_, append-nil}
 use native.Mathlib.Numerals.{add-one}
 use native.Mathlib.Omega.{arith}
 use lib.ListN.{length, getD, set, length-append}
-use Rattle.theory.specs.Places.{laid, passing}
+use Rattle.theory.specs.Places.{passing}
 use Rattle.theory.specs.PlaceLaws.{passing-more, laid-more, length-laid, passing-few, passing-most}
 use Rattle.interrupt.specs.Life.{deliverableIn}
-use Rattle.distributor.specs.declared.bank.Slot.{Slot}
-use Rattle.distributor.specs.Banks.{noSlot}
+use Rattle.slot.specs.declared.slot.Slot.{Slot}
+use Rattle.slot.specs.BankRule.{noSlot}
 use Rattle.distributor.specs.Calls.{deliverableAt}
 use Rattle.distributor.specs.Loops.{Told}
 

@@ -1,18 +1,20 @@
 -- The loop that reads a bank's fields, from the highest down: one field more.
-use Prim.Native.Nat.{ℕ, zero, suc, _+_, _-_, _*_, _^_, _≤_, _<_}
-use mathlib.Core.Path.{_≡_, refl, sym, ap, _∙_}
+use Prim.Native.Nat.{ℕ, suc, _+_, _-_, _*_, _^_, _≤_, _<_}
+use mathlib.Core.Path.{_≡_, refl, _∙_}
 use mathlib.Core.Bool.{Bool, true, false, not, _&&_, _||_, cond}
 use mathlib.Core.List.{List}
 use native.Mathlib.Nat.{pow-suc, mul-le-mul-left}
 use native.Mathlib.Omega.{arith}
 use lib.ListN.{getD}
 use lib.Pow.{pow-mono}
-use Rattle.distributor.specs.declared.bank.Slot.{Slot}
-use Rattle.distributor.specs.declared.controller.ControllerConfig.{ControllerConfig}
-use Rattle.distributor.specs.declared.register.Bank.{Bank}
-use Rattle.distributor.specs.Registers.{bitsOf}
-use Rattle.distributor.specs.Banks.{explicit, owned, inTable, slotOf, noSlot, shown, packed, showing}
-use Rattle.distributor.specs.ReadLaws.{digit-fits, pow-pow}
+use Rattle.slot.specs.declared.slot.Slot.{Slot}
+use Rattle.registers.specs.declared.controller.ControllerConfig.{ControllerConfig}
+use Rattle.registers.specs.declared.register.Bank.{Bank}
+use Rattle.registers.specs.Registers.{bitsOf}
+use Rattle.registers.specs.Banks.{explicit, inTable, shown, packed}
+use Rattle.slot.specs.Slots.{owned}
+use Rattle.slot.specs.BankRule.{slotOf, noSlot, showing}
+use Rattle.registers.specs.FieldLaws.{digit-fits, pow-pow}
 
 -- the fields that are read fit 64 bits
 pub room : (b : Bank) (k m : ℕ) → bitsOf b * m ≤ 64 → k ≤ m → (2 ^ bitsOf b) ^ k ≤ 2 ^ 64

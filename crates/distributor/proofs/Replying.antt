@@ -1,7 +1,7 @@
 -- From what a write did to its state and its reply.
-use Prim.Native.Nat.{ℕ, _+_, _≤_, _<_}
+use Prim.Native.Nat.{ℕ, _≤_, _<_}
 use mathlib.Core.Path.{_≡_, refl, sym, ap, _∙_}
-use mathlib.Core.Bool.{Bool, true, false, cond}
+use mathlib.Core.Bool.{Bool, true, false}
 use mathlib.Core.List.{List, [], _∷_}
 use borrow.Author.Tests.{lt-ltb, le-ltb}
 use lib.Dec.{ltb}
@@ -9,20 +9,20 @@ use lib.ListN.{length}
 use Rattle.theory.specs.Places.{mapAt, laid, passing}
 use Rattle.theory.specs.PlaceLaws.{passing-never}
 use Rattle.theory.specs.MapLaws.{mapAt-still}
-use Rattle.interrupt.specs.Answer.{Answer, done, refused, toldRefusal}
+use Rattle.interrupt.specs.Answer.{Answer, done, refused}
 use Rattle.interrupt.specs.declared.error.Refusal.{Refusal}
 use Rattle.interrupt.specs.declared.error.Refusal.the-variants.{ShortList}
 use Rattle.distributor.specs.declared.access.WriteAnswer.{WriteAnswer}
 use Rattle.distributor.specs.declared.access.Wrote.{Wrote}
-use Rattle.distributor.specs.declared.bank.Slot.{Slot}
 use Rattle.distributor.specs.declared.distributor.DistributorState.{DistributorState}
-use Rattle.distributor.specs.declared.register.AccessWidth.{AccessWidth}
-use Rattle.distributor.specs.declared.register.Direction.the-variants.{Writing}
-use Rattle.distributor.specs.declared.register.Access.{Access}
-use Rattle.distributor.specs.declared.register.Access.the-variants.{Refused}
-use Rattle.distributor.specs.Registers.{decode}
-use Rattle.distributor.specs.Calls.{Reply, size, write, writeAccess, writeReply, listing, listingUnless, reply, step}
-use Rattle.distributor.specs.Loops.{withSlots, lowest}
+use Rattle.registers.specs.declared.register.AccessWidth.{AccessWidth}
+use Rattle.registers.specs.declared.register.Direction.the-variants.{Writing}
+use Rattle.registers.specs.declared.register.Access.{Access}
+use Rattle.registers.specs.declared.register.Access.the-variants.{Refused}
+use Rattle.registers.specs.Registers.{decode}
+use Rattle.distributor.specs.Calls.{Reply, unless, size, write, writeAccess, writeReply, listingUnless, reply, step}
+use Rattle.registers.specs.Banks.{lowest}
+use Rattle.distributor.specs.Loops.{withSlots}
 use Rattle.distributor.specs.Told.{toldWrite, writtenState, Writes}
 
 -- a map that leaves every slot alone leaves the state alone
@@ -65,3 +65,12 @@ module _ (d : DistributorState) (o : ℕ) (w : AccessWidth) (v : ℕ) (list : Li
       → (r .state ≡ step (write o w v list) d) × (_≡_ {A = Reply} (record { answer = toldWrite (r .answer); list = left }) (reply (write o w v list) d))
   unfolding step reply
   written-so a r left e h = (h .0 ∙ ap (λ (x : Access). writtenState d x v) (sym e), h .1 ∙ ap (λ (x : Access). writeReply d x v list) (sym e))
+
+-- an answer that waits on the lowest INTID
+pub unless-hit : (l : List ℕ) (i : ℕ) (a : Answer) → i ∷ [] ≡ lowest l → refused 1 (i ∷ []) ≡ unless l a
+unless-hit [] i a e = cc
+unless-hit (x ∷ l) i a e = let z : i ≡ x = cc in rw z
+
+pub unless-miss : (l : List ℕ) (a : Answer) → [] ≡ lowest l → a ≡ unless l a
+unless-miss [] a e = refl
+unless-miss (x ∷ l) a e = cc

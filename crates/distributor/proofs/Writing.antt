@@ -1,11 +1,9 @@
 -- The loop that writes a bank's fields, from the lowest up: one field more, to the slots and to the list.
-use Prim.Native.Nat.{ℕ, zero, suc, _+_, _-_, _*_, _/_, _%_, _^_, _≤_, _<_}
-use mathlib.Core.Path.{_≡_, refl, sym, ap, _∙_}
+use Prim.Native.Nat.{ℕ, _+_, _-_, _/_, _%_, _^_, _<_}
+use mathlib.Core.Path.{_≡_, refl, ap, _∙_}
 use mathlib.Core.Logic.{_≢_, by-cases}
 use mathlib.Core.Bool.{Bool, true, false, not, _&&_, _||_, cond}
 use mathlib.Core.List.{List}
-use native.Mathlib.Nat.{pow-suc, div-div-eq-div-mul}
-use native.Mathlib.Numerals.{add-one}
 use native.Mathlib.Omega.{arith}
 use native.Mathlib.Decide.{ℕ-discrete, decLe, decLt}
 use borrow.Author.Tests.{le-leb, lt-leb, lt-ltb, le-ltb}
@@ -16,22 +14,18 @@ use Rattle.theory.specs.Places.{mapAt}
 use Rattle.theory.specs.MapLaws.{mapAt-edit, mapAt-same, getD-mapAt}
 use Rattle.interrupt.specs.Answer.{within}
 use Rattle.interrupt.specs.Life.{deliverableIn}
-use Rattle.distributor.specs.declared.bank.Slot.{Slot}
-use Rattle.distributor.specs.declared.controller.ControllerConfig.{ControllerConfig}
-use Rattle.distributor.specs.declared.register.Bank.{Bank}
-use Rattle.distributor.specs.Registers.{bitsOf}
-use Rattle.distributor.specs.Banks.{explicit, owned, inTable, slotOf, noSlot, acts, written, lists, field, reaches, bankSlot, candidate}
+use Rattle.slot.specs.declared.slot.Slot.{Slot}
+use Rattle.registers.specs.declared.controller.ControllerConfig.{ControllerConfig}
+use Rattle.registers.specs.declared.register.Bank.{Bank}
+use Rattle.registers.specs.Registers.{bitsOf}
+use Rattle.registers.specs.Banks.{explicit, inTable, acts, lists, field}
+use Rattle.slot.specs.Slots.{owned, written}
+use Rattle.slot.specs.BankRule.{slotOf, noSlot, reaches, bankSlot, candidate}
 use Rattle.distributor.specs.declared.distributor.DistributorState.{DistributorState}
 use Rattle.distributor.specs.Calls.{size}
 use Rattle.distributor.specs.Loops.{withSlots}
-use Rattle.distributor.specs.BankLaws.{in-range}
-
--- the value is used up field by field
-pub used : (b : ℕ) (value v j : ℕ) → v ≡ value / b ^ j → v / b ≡ value / b ^ (j + 1)
-used b value v j e = rw (add-one j, pow-suc b j, e) (div-div-eq-div-mul value (b ^ j) b)
-
-pub field-at : (b : Bank) (value v lo j : ℕ) → v ≡ value / (2 ^ bitsOf b) ^ j → v % 2 ^ bitsOf b ≡ field b value lo (lo + j)
-field-at b value v lo j e = let z : lo + j - lo ≡ j = omega arith in rw (z, e)
+use Rattle.registers.specs.BankLaws.{in-range}
+use Rattle.registers.proofs.Digits.{field-at}
 
 -- the first j INTIDs from lo on
 within-next : (lo j i : ℕ) → i ≢ lo + j → within lo (lo + j) i ≡ within lo (lo + (j + 1)) i

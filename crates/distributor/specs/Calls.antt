@@ -1,6 +1,6 @@
 -- Every call on a Distributor: what it does to each slot and to the switch, and what it answers.
-use Prim.Native.Nat.{ℕ, _+_, _-_, _*_, _/_, _%_, min}
-use mathlib.Core.Bool.{Bool, true, false, not, _&&_, _||_, cond}
+use Prim.Native.Nat.{ℕ, _+_, _-_, _/_, _%_, min}
+use mathlib.Core.Bool.{Bool, false, not, _&&_, cond}
 use mathlib.Core.List.{List, [], _∷_}
 use lib.Dec.{leb, ltb, eqb}
 use lib.ListN.{length, getD}
@@ -8,33 +8,27 @@ use Rattle.theory.specs.Places.{mapAt, tabulate, laid, passing}
 use Rattle.interrupt.specs.Answer.{Answer, done, refused, toldRefusal, rawOf}
 use Rattle.interrupt.specs.Affinity.{mpidrOf}
 use Rattle.interrupt.specs.State.{levelOf}
-use Rattle.interrupt.specs.Life.{fresh, stateIn, held, merged, routeIn, maskIn, deliverableIn}
-use Rattle.interrupt.specs.Operation.{applied}
-use Rattle.interrupt.specs.declared.types.IntId.{IntId}
+use Rattle.interrupt.specs.Life.{stateIn, held, routeIn, maskIn, deliverableIn}
 use Rattle.interrupt.specs.declared.types.GicAffinity.{GicAffinity}
-use Rattle.interrupt.specs.declared.types.TriggerMode.{TriggerMode}
-use Rattle.interrupt.specs.declared.types.InterruptState.{InterruptState}
-use Rattle.interrupt.specs.declared.types.InterruptState.the-variants.{Inactive, Pending, Active, ActivePending}
-use Rattle.interrupt.specs.declared.error.Refusal.{Refusal}
 use Rattle.interrupt.specs.declared.error.Refusal.the-variants.{ShortList}
 use Rattle.interrupt.specs.declared.interrupt.InterruptRecord.{InterruptRecord}
 use Rattle.interrupt.specs.declared.interrupt.Route.{Route}
 use Rattle.interrupt.specs.declared.interrupt.TargetMask.{TargetMask}
 use Rattle.interrupt.specs.declared.operation.Operation.{Operation}
-use Rattle.interrupt.specs.declared.operation.Operation.the-variants.{SetEnabled, SetPending, SetActive, SetState, ClearDeliveryState, MarkInflight, SynchronizeInflight, CancelInflight, FinishInflight, DeactivateInflight, SetPriority, SetTrigger, SetRoute, ClearRoute, SetCpuTargetMask, SetLevel, Pulse, Complete}
-use Rattle.distributor.specs.declared.controller.ControllerConfig.{ControllerConfig}
-use Rattle.distributor.specs.declared.bank.Slot.{Slot}
+use Rattle.registers.specs.declared.controller.ControllerConfig.{ControllerConfig}
+use Rattle.slot.specs.declared.slot.Slot.{Slot}
 use Rattle.distributor.specs.declared.distributor.DistributorState.{DistributorState}
-use Rattle.distributor.specs.declared.register.AccessWidth.{AccessWidth}
-use Rattle.distributor.specs.declared.register.Bank.{Bank}
-use Rattle.distributor.specs.declared.register.Register.{Register}
-use Rattle.distributor.specs.declared.register.Register.the-variants.{Identification, Ctlr, Typer, Iidr, Fields, Reserved}
-use Rattle.distributor.specs.declared.register.Access.{Access}
-use Rattle.distributor.specs.declared.register.Access.the-variants.{To, Refused}
-use Rattle.distributor.specs.declared.register.Direction.the-variants.{Reading, Writing}
-use Rattle.distributor.specs.Registers.{decode}
-use Rattle.distributor.specs.Banks.{bit, inTable, slotOf, withRecord, through, bankValue, readBeyond, writeBeyond, bankSlot, bankCandidates}
-use Rattle.distributor.specs.Identity.{componentId, iidrValue, ctlrValue, typerValue}
+use Rattle.registers.specs.declared.register.AccessWidth.{AccessWidth}
+use Rattle.registers.specs.declared.register.Register.the-variants.{Identification, Ctlr, Typer, Iidr, Fields, Reserved}
+use Rattle.registers.specs.declared.register.Access.{Access}
+use Rattle.registers.specs.declared.register.Access.the-variants.{To, Refused}
+use Rattle.registers.specs.declared.register.Direction.the-variants.{Reading, Writing}
+use Rattle.registers.specs.Registers.{decode}
+use Rattle.registers.specs.Banks.{bit, inTable, readBeyond, writeBeyond}
+use Rattle.slot.specs.BankRule.{slotOf, bankValue, bankSlot, bankCandidates}
+use Rattle.registers.specs.Identity.{componentId, iidrValue, ctlrValue, typerValue}
+use Rattle.slot.specs.Slots.{claimAnswer, claimed, claimedTo, freshSpi, operated, operationValues, released, stateNumber}
+use Rattle.registers.specs.Places.{tableSize}
 
 -- what may be asked of a record, by SPI
 pub data Question : Type 0 where
@@ -65,11 +59,7 @@ plain a = record { answer = a; list = [] }
 
 -- the table has at most 988 places; a state that was created has no more records
 abbrev pub size : DistributorState → ℕ
-size d = min (d .«spi_count») 988
-
--- a new SPI is level-sensitive, unclaimed, and its route is not fixed
-abbrev pub freshSpi : ℕ → Slot
-freshSpi raw = record { interrupt = fresh (IntId.Spi (record { 0 = raw })) TriggerMode.Level; «explicitly_owned» = false; «fixed_route» = false }
+size d = tableSize (d .«spi_count»)
 
 -- the place p of a table of n records is INTID 32 + p's; a place outside the table holds the first SPI's
 abbrev pub freshSlot : ℕ → ℕ → Slot
@@ -92,41 +82,6 @@ writeAccess c n offset w list =
 -- CTLR's bit 1
 abbrev pub switchBit : ℕ → Bool
 switchBit v = eqb (v / 2 % 2) 1
-
-abbrev pub setsMask : Operation → Bool
-setsMask (SetEnabled on) = false
-setsMask (SetPending on) = false
-setsMask (SetActive on) = false
-setsMask (SetState t) = false
-setsMask ClearDeliveryState = false
-setsMask MarkInflight = false
-setsMask (SynchronizeInflight t) = false
-setsMask CancelInflight = false
-setsMask FinishInflight = false
-setsMask (DeactivateInflight p) = false
-setsMask (SetPriority p) = false
-setsMask (SetTrigger t) = false
-setsMask (SetRoute a) = false
-setsMask ClearRoute = false
-setsMask (SetCpuTargetMask m) = true
-setsMask (SetLevel high) = false
-setsMask Pulse = false
-setsMask Complete = false
-
--- an operation on a slot: a target mask changes nothing where the route is fixed
-abbrev pub operated : Operation → Slot → Slot
-operated o s = cond (setsMask o && s .«fixed_route») s (through o s)
-
--- a claim of an unclaimed SPI: by software it leaves the record, physically it fixes the route
-abbrev pub claimed : Slot → Slot
-claimed s = cond (s .«explicitly_owned») s (record { interrupt = s .interrupt; «explicitly_owned» = true; «fixed_route» = false })
-
-abbrev pub claimedTo : GicAffinity → Slot → Slot
-claimedTo a s = cond (s .«explicitly_owned») s (record { interrupt = applied (SetRoute a) (s .interrupt); «explicitly_owned» = true; «fixed_route» = true })
-
--- release drops claim, mark and route and makes the SPI level-sensitive; the rest of the record stays
-abbrev pub released : Slot → Slot
-released s = record { interrupt = applied (SetTrigger TriggerMode.Level) (applied ClearRoute (s .interrupt)); «explicitly_owned» = false; «fixed_route» = false }
 
 module _ (c : ControllerConfig) (n : ℕ) where
   -- a change of the SPI raw, and of no other
@@ -189,13 +144,6 @@ abbrev pub unless : List ℕ → Answer → Answer
 unless [] a = a
 unless (i ∷ is) a = refused 1 (i ∷ [])
 
--- the state of an interrupt as a number
-abbrev pub stateNumber : InterruptState → ℕ
-stateNumber Inactive = 0
-stateNumber Pending = 1
-stateNumber Active = 2
-stateNumber ActivePending = 3
-
 abbrev pub routeValues : Route → List ℕ
 routeValues (Route.To a) = mpidrOf a ∷ []
 routeValues Route.Unset = []
@@ -217,31 +165,6 @@ asked trigger r = bit (not (levelOf (r .trigger))) ∷ []
 asked route r = routeValues (routeIn r)
 asked cpuTargetMask r = maskValue (maskIn r) ∷ []
 asked deliverable r = bit (deliverableIn r) ∷ []
-
--- what an operation answers: a synchronisation the merged state, the others nothing
-abbrev pub operationValues : Operation → InterruptRecord → List ℕ
-operationValues (SetEnabled on) r = []
-operationValues (SetPending on) r = []
-operationValues (SetActive on) r = []
-operationValues (SetState t) r = []
-operationValues ClearDeliveryState r = []
-operationValues MarkInflight r = []
-operationValues (SynchronizeInflight t) r = stateNumber (merged t r) ∷ []
-operationValues CancelInflight r = []
-operationValues FinishInflight r = []
-operationValues (DeactivateInflight p) r = []
-operationValues (SetPriority p) r = []
-operationValues (SetTrigger t) r = []
-operationValues (SetRoute a) r = []
-operationValues ClearRoute r = []
-operationValues (SetCpuTargetMask m) r = []
-operationValues (SetLevel high) r = []
-operationValues Pulse r = []
-operationValues Complete r = []
-
--- a claim of an SPI that is claimed already is refused 2
-abbrev pub claimAnswer : Slot → Answer
-claimAnswer s = cond (s .«explicitly_owned») (refused 2 []) (done [])
 
 -- the record of INTID i is deliverable
 abbrev pub deliverableAt : List Slot → ℕ → Bool

@@ -3,7 +3,7 @@ use mathlib.Core.Bool.{Bool}
 use mathlib.Core.List.{[], _∷_}
 use Rattle.interrupt.specs.Answer.{Answer, done, toldRefusal}
 use Rattle.distributor.specs.declared.create.CreateAnswer.{CreateAnswer}
-use Rattle.distributor.specs.Banks.{bit}
+use Rattle.registers.specs.Banks.{bit}
 use Rattle.distributor.specs.Calls.{Reply, plain}
 
 abbrev pub toldCreate : CreateAnswer → Answer

@@ -1,16 +1,8 @@
-pub mod Registers
-pub mod Banks
-pub mod Places
-pub mod Identity
 pub mod Calls
 pub mod Loops
 pub mod Told
 pub mod Host
 pub mod Create
 pub mod Questions
-pub mod Board
-pub mod IdentityLaws
-pub mod MapLaws
 pub mod ReadLaws
-pub mod BankLaws
 pub mod Replies

@@ -1,13 +1,11 @@
 -- What the loops over the table promise, in the terms of the bank rule.
 use Prim.Native.Nat.{ℕ}
 use mathlib.Core.Path.{_≡_}
-use mathlib.Core.List.{List, [], _∷_}
+use mathlib.Core.List.{List}
 use lib.ListN.{length}
 use Rattle.theory.specs.Places.{laid}
-use Rattle.distributor.specs.declared.bank.Slot.{Slot}
+use Rattle.slot.specs.declared.slot.Slot.{Slot}
 use Rattle.distributor.specs.declared.distributor.DistributorState.{DistributorState}
-use Rattle.distributor.specs.declared.bank.Beyond.{Beyond}
-use Rattle.distributor.specs.declared.bank.Beyond.the-variants.{Nothing, At}
 
 abbrev pub withSlots : DistributorState → List Slot → DistributorState
 withSlots d l = record { config = d .config; enabled = d .enabled; «spi_count» = d .«spi_count»; slots = l }
@@ -15,12 +13,3 @@ withSlots d l = record { config = d .config; enabled = d .enabled; «spi_count»
 -- the list `new` is the list `old` with the candidates in its first places, and n is their number
 abbrev pub Told : List ℕ → List ℕ → List ℕ → ℕ → Type 0
 Told candidates old new n = (new ≡ laid candidates old) × (n ≡ length candidates)
-
--- the first of a list
-abbrev pub lowest : List ℕ → List ℕ
-lowest [] = []
-lowest (i ∷ is) = i ∷ []
-
-abbrev pub toldBeyond : Beyond → List ℕ
-toldBeyond Nothing = []
-toldBeyond (At i) = i ∷ []

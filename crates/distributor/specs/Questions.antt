@@ -10,8 +10,9 @@ use Rattle.distributor.specs.declared.questions.PriorityOf.{PriorityOf}
 use Rattle.distributor.specs.declared.questions.TriggerOf.{TriggerOf}
 use Rattle.distributor.specs.declared.questions.RouteOf.{RouteOf}
 use Rattle.distributor.specs.declared.questions.MaskOf.{MaskOf}
-use Rattle.distributor.specs.Banks.{bit}
-use Rattle.distributor.specs.Calls.{stateNumber, routeValues}
+use Rattle.registers.specs.Banks.{bit}
+use Rattle.slot.specs.Slots.{stateNumber}
+use Rattle.distributor.specs.Calls.{routeValues}
 
 abbrev pub toldNumber : SpiNumber → Answer
 toldNumber (SpiNumber.Is x) = done (x ∷ [])

@@ -1,30 +1,28 @@
 -- What every reply keeps to: the order of the refusals, and what becomes of the lent list.
-use Prim.Native.Nat.{ℕ, zero, suc, _+_, _-_, _≤_, _<_, min}
-use mathlib.Core.Path.{_≡_, refl, sym, ap, _∙_}
-use mathlib.Core.Bool.{Bool, true, false, _&&_, cond}
+use Prim.Native.Nat.{ℕ, _+_, _-_, _≤_, _<_}
+use mathlib.Core.Path.{_≡_}
+use mathlib.Core.Bool.{Bool, true, false, cond}
 use mathlib.Core.List.{List, [], _∷_}
 use native.Mathlib.Omega.{arith}
 use borrow.Author.Tests.{lt-ltb, le-ltb}
 use lib.Dec.{ltb}
-use lib.ListN.{length, getD}
+use lib.ListN.{length}
 use Rattle.theory.specs.Places.{laid, passing}
-use Rattle.theory.specs.PlaceLaws.{length-laid, laid-past, passing-few, passing-most}
-use Rattle.interrupt.specs.Answer.{Answer, done, refused, toldRefusal, numberOf, carriedBy}
-use Rattle.interrupt.specs.declared.error.Refusal.{Refusal}
-use Rattle.interrupt.specs.declared.error.Refusal.the-variants.{InvalidAccess, InvalidWidth, ShortList}
-use Rattle.distributor.specs.declared.controller.ControllerConfig.{ControllerConfig}
+use Rattle.theory.specs.PlaceLaws.{passing-few, passing-most}
+use Rattle.interrupt.specs.Answer.{done, refused, numberOf, carriedBy}
+use Rattle.interrupt.specs.declared.error.Refusal.the-variants.{InvalidWidth}
 use Rattle.distributor.specs.declared.distributor.DistributorState.{DistributorState}
-use Rattle.distributor.specs.declared.register.AccessWidth.{AccessWidth}
-use Rattle.distributor.specs.declared.register.Bank.{Bank}
-use Rattle.distributor.specs.declared.register.Register.{Register}
-use Rattle.distributor.specs.declared.register.Register.the-variants.{Identification, Ctlr, Typer, Iidr, Fields, Reserved}
-use Rattle.distributor.specs.declared.register.Access.{Access}
-use Rattle.distributor.specs.declared.register.Access.the-variants.{To, Refused}
-use Rattle.distributor.specs.declared.register.Direction.the-variants.{Reading, Writing}
-use Rattle.distributor.specs.Registers.{legal, lookup, map, decode}
-use Rattle.distributor.specs.Banks.{candidate, bankCandidates, writeBeyond}
-use Rattle.distributor.specs.BankLaws.{candidate-in}
-use Rattle.distributor.specs.Calls.{Call, read, write, Reply, plain, size, switchBit, deliverableAt, switchCandidates, listing, listingUnless, writeAccess, writeReply, reply}
+use Rattle.registers.specs.declared.register.AccessWidth.{AccessWidth}
+use Rattle.registers.specs.declared.register.Bank.{Bank}
+use Rattle.registers.specs.declared.register.Register.the-variants.{Identification, Ctlr, Typer, Iidr, Fields, Reserved}
+use Rattle.registers.specs.declared.register.Access.{Access}
+use Rattle.registers.specs.declared.register.Access.the-variants.{To, Refused}
+use Rattle.registers.specs.declared.register.Direction.the-variants.{Reading, Writing}
+use Rattle.registers.specs.Registers.{legal, lookup, map, decode}
+use Rattle.registers.specs.Banks.{writeBeyond}
+use Rattle.slot.specs.BankRule.{candidate, bankCandidates}
+use Rattle.slot.specs.BankRuleLaws.{candidate-in}
+use Rattle.distributor.specs.Calls.{read, write, Reply, plain, size, switchBit, deliverableAt, switchCandidates, listingUnless, writeAccess, writeReply, reply}
 
 module _ (d : DistributorState) (offset : ℕ) (w : AccessWidth) where
   -- a read tests 3 first

@@ -1,27 +1,28 @@
 // The guest's reads and writes.
-use crate::bank::Beyond;
-use crate::bank::first_beyond;
-use crate::bank::read_beyond;
 use crate::distributor::DistributorState;
 use crate::distributor::list_deliverable;
 use crate::distributor::read_fields;
 use crate::distributor::write_fields;
-use crate::identity::component_id;
-use crate::identity::ctlr;
-use crate::identity::typer;
-use crate::register::Access;
-use crate::register::AccessWidth;
-use crate::register::Bank;
-use crate::register::Direction;
-use crate::register::Register;
-use crate::register::decode;
 use interrupt::error::Refusal;
+use registers::bank::Beyond;
+use registers::bank::first_beyond;
+use registers::bank::read_beyond;
+use registers::identity::component_id;
+use registers::identity::ctlr;
+use registers::identity::typer;
+use registers::register::Access;
+use registers::register::AccessWidth;
+use registers::register::Bank;
+use registers::register::Direction;
+use registers::register::Register;
+use registers::register::decode;
 ghost use mathlib.Core.Path.{_≡_};
 ghost use Prim.Native.Nat.{_*_, _≤_, _<_};
 ghost use lib.ListN.{length};
-ghost use Rattle.distributor.specs.Registers.{bitsOf};
+ghost use Rattle.registers.specs.Registers.{bitsOf};
 ghost use Rattle.distributor.specs.Calls.{read, write, size, plain, readReply, reply, step};
-ghost use Rattle.distributor.specs.Told.{toldRead, toldWrite, Bounded, Writes};
+ghost use Rattle.registers.specs.Registers.{Bounded};
+ghost use Rattle.distributor.specs.Told.{toldRead, toldWrite, Writes};
 
 pub enum ReadAnswer {
     Value(u64),
@@ -57,7 +58,7 @@ impl DistributorState {
         match register {
             Register::Identification(k) => ReadAnswer::Value(component_id(k)),
             Register::Ctlr => ReadAnswer::Value(ctlr(self.enabled)),
-            Register::Typer => ReadAnswer::Value(typer(self.config, self.size())),
+            Register::Typer => ReadAnswer::Value(typer(self.config, self.spi_count)),
             Register::Iidr => ReadAnswer::Value(0x43b),
             Register::Fields(bank, lo, m) => self.read_bank(bank, lo, m),
             Register::Reserved => ReadAnswer::Value(0),

@@ -1,18 +1,14 @@
 // Creation, and the host's calls on the switch.
-use crate::bank::Slot;
-use crate::controller::ControllerConfig;
 use crate::distributor::DistributorState;
 use interrupt::error::Refusal;
-use interrupt::interrupt::InterruptRecord;
-use interrupt::types::IntId;
 use interrupt::types::SpiId;
 use interrupt::types::SpiIdAnswer;
-use interrupt::types::TriggerMode;
+use registers::controller::ControllerConfig;
+use slot::slot::Slot;
 ghost use mathlib.Core.Path.{_≡_};
 ghost use mathlib.Core.Bool.{cond};
-ghost use Prim.Native.Nat.{_≤_};
 ghost use lib.Dec.{leb};
-ghost use Rattle.distributor.specs.Calls.{created, createAnswer, freshSpi, isEnabled, rollback, plain, reply, step};
+ghost use Rattle.distributor.specs.Calls.{created, createAnswer, isEnabled, rollback, reply, step};
 ghost use Rattle.distributor.specs.Create.{toldCreate, switchAnswer};
 
 pub enum CreateAnswer {
@@ -24,19 +20,6 @@ pub struct Created {
     // With no SPIs where the creation was refused.
     pub state: DistributorState,
     pub answer: CreateAnswer,
-}
-
-impl Slot {
-    // An SPI is made level-sensitive, and unclaimed.
-    pub fn fresh(spi: SpiId) -> Self
-        ensures { λ r. ⌜ r ≡ freshSpi (spi .0) ⌝ }
-    {
-        Slot {
-            interrupt: InterruptRecord::new(IntId::Spi(spi), TriggerMode::Level),
-            explicitly_owned: false,
-            fixed_route: false,
-        }
-    }
 }
 
 impl DistributorState {

@@ -1,17 +1,18 @@
 // The Distributor: its table of SPIs, and the loops over it.
-use crate::bank::Slot;
-use crate::controller::ControllerConfig;
-use crate::place::Place;
-use crate::place::in_table;
-use crate::register::Bank;
+use registers::controller::ControllerConfig;
+use registers::place::Place;
+use registers::place::in_table;
+use registers::place::table_size;
+use registers::register::Bank;
+use slot::slot::Slot;
 ghost use mathlib.Core.Path.{_≡_};
-ghost use mathlib.Core.Bool.{Bool, true, false, cond, _&&_};
-ghost use mathlib.Core.List.{[], _∷_};
+ghost use mathlib.Core.Bool.{true, cond, _&&_};
 ghost use Prim.Native.Nat.{_+_, _*_, _≤_, _<_};
 ghost use lib.ListN.{length, set};
 ghost use Rattle.theory.specs.Places.{mapAt, passing};
-ghost use Rattle.distributor.specs.Registers.{bitsOf};
-ghost use Rattle.distributor.specs.Banks.{explicit, bankValue, bankSlot, candidate};
+ghost use Rattle.registers.specs.Registers.{bitsOf};
+ghost use Rattle.registers.specs.Banks.{explicit};
+ghost use Rattle.slot.specs.BankRule.{bankValue, bankSlot, candidate};
 ghost use Rattle.distributor.specs.Calls.{size, deliverableAt};
 ghost use Rattle.distributor.specs.Loops.{withSlots, Told};
 
@@ -35,11 +36,7 @@ impl DistributorState {
     pub fn size(self) -> u32
         ensures { λ r. ⌜ r ≡ size self ⌝ }
     {
-        if self.spi_count < 988 {
-            self.spi_count
-        } else {
-            988
-        }
+        table_size(self.spi_count)
     }
 
     pub fn is_explicit(self) -> bool
@@ -64,18 +61,18 @@ fn note(list: &mut [u32], count: usize, intid: u32, on: bool) -> usize
 }
 
 // The m fields of a bank from INTID lo on, read from the highest down.
-pub fn read_fields(d: DistributorState, bank: Bank, lo: u32, m: u32) -> u64
+pub(crate) fn read_fields(d: DistributorState, bank: Bank, lo: u32, m: u32) -> u64
     requires { ⌜ (lo < 0x10000) × (m ≤ 64) × (bitsOf bank * m ≤ 64) ⌝ }
     ensures { λ r. ⌜ r ≡ bankValue (d .config) (size d) bank lo m (d .slots) ⌝ }
 {
-    let n = d.size();
+    let spis = d.spi_count;
     let explicit = d.is_explicit();
     let mut value: u64 = 0;
     let mut j = m;
     while 0 < j {
         j -= 1;
-        let inside = in_table(n, lo + j);
-        let p = Place::or_first(n, lo + j).index();
+        let inside = in_table(spis, lo + j);
+        let p = Place::or_first(spis, lo + j).index();
         let s = d.slots[p];
         value = bank.joined(value, s.showing(inside, explicit, bank));
     }
@@ -83,7 +80,7 @@ pub fn read_fields(d: DistributorState, bank: Bank, lo: u32, m: u32) -> u64
 }
 
 // Writes the m fields of a value to a bank from INTID lo on, the lowest first. `tells` says whether candidates are listed.
-pub fn write_fields(
+pub(crate) fn write_fields(
     mut d: DistributorState,
     bank: Bank,
     lo: u32,
@@ -95,7 +92,7 @@ pub fn write_fields(
     requires { ⌜ (lo < 0x10000) × (m ≤ 64) × (size d ≤ length (now list)) ⌝ }
     ensures { λ r. ⌜ (r .state ≡ withSlots d (mapAt (λ p. bankSlot (d .config) (size d) bank value lo m (32 + p)) (d .slots))) × Told (passing (λ i. tells && candidate (d .config) (size d) bank value lo m (d .slots) i) lo m) (now (list .entry)) (now (list .exit)) (r .count) ⌝ }
 {
-    let n = d.size();
+    let spis = d.spi_count;
     let explicit = d.is_explicit();
     let lists = tells & bank.lists();
     let mut v = value;
@@ -104,9 +101,9 @@ pub fn write_fields(
     while j < m {
         let i = lo + j;
         let f = bank.lowest(v);
-        let p = Place::or_first(n, i).index();
+        let p = Place::or_first(spis, i).index();
         let old = d.slots[p];
-        let touched = in_table(n, i) & bank.acts(f) & old.owned(explicit);
+        let touched = in_table(spis, i) & bank.acts(f) & old.owned(explicit);
         let new = old.touched(touched, bank, f);
         d.slots[p] = new;
         let interrupt = new.interrupt;
@@ -121,7 +118,7 @@ pub fn write_fields(
 }
 
 // Lists every deliverable record of the table.
-pub fn list_deliverable(d: DistributorState, list: &mut [u32]) -> usize
+pub(crate) fn list_deliverable(d: DistributorState, list: &mut [u32]) -> usize
     requires { ⌜ size d ≤ length (now list) ⌝ }
     ensures { λ r. ⌜ Told (passing (deliverableAt (d .slots)) 32 (size d)) (now (list .entry)) (now (list .exit)) r ⌝ }
 {

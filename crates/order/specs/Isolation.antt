@@ -7,19 +7,21 @@ use Rattle.theory.specs.MapLaws.{relates-mapAt}
 use Rattle.interrupt.specs.Answer.{done}
 use Rattle.interrupt.specs.Affinity.{fromMpidr}
 use Rattle.interrupt.specs.declared.operation.Operation.the-variants.{SetRoute}
-use Rattle.distributor.specs.declared.controller.ControllerConfig.{ControllerConfig}
-use Rattle.distributor.specs.declared.bank.Slot.{Slot}
+use Rattle.registers.specs.declared.controller.ControllerConfig.{ControllerConfig}
+use Rattle.slot.specs.declared.slot.Slot.{Slot}
 use Rattle.distributor.specs.declared.distributor.DistributorState.{DistributorState}
-use Rattle.distributor.specs.declared.register.AccessWidth.{AccessWidth}
-use Rattle.distributor.specs.declared.register.Bank.{Bank}
-use Rattle.distributor.specs.declared.register.Bank.the-variants.{Igroupr, Isenabler, Icenabler, Ispendr, Icpendr, Isactiver, Icactiver, Ipriorityr, Icfgr, Irouter}
-use Rattle.distributor.specs.declared.register.Register.the-variants.{Identification, Ctlr, Typer, Iidr, Fields, Reserved}
-use Rattle.distributor.specs.declared.register.Access.{Access}
-use Rattle.distributor.specs.declared.register.Access.the-variants.{To, Refused}
-use Rattle.distributor.specs.declared.register.Direction.the-variants.{Reading}
-use Rattle.distributor.specs.Registers.{decode}
-use Rattle.distributor.specs.Banks.{explicit, owned, inTable, shown, field, through, written, noSlot, slotOf, showing, readBeyond, reaches, bankSlot}
-use Rattle.distributor.specs.BankLaws.{packed-same}
+use Rattle.registers.specs.declared.register.AccessWidth.{AccessWidth}
+use Rattle.registers.specs.declared.register.Bank.{Bank}
+use Rattle.registers.specs.declared.register.Bank.the-variants.{Igroupr, Isenabler, Icenabler, Ispendr, Icpendr, Isactiver, Icactiver, Ipriorityr, Icfgr, Irouter}
+use Rattle.registers.specs.declared.register.Register.the-variants.{Identification, Ctlr, Typer, Iidr, Fields, Reserved}
+use Rattle.registers.specs.declared.register.Access.{Access}
+use Rattle.registers.specs.declared.register.Access.the-variants.{To, Refused}
+use Rattle.registers.specs.declared.register.Direction.the-variants.{Reading}
+use Rattle.registers.specs.Registers.{decode}
+use Rattle.registers.specs.Banks.{explicit, inTable, shown, field, readBeyond}
+use Rattle.slot.specs.Slots.{owned, through, written}
+use Rattle.slot.specs.BankRule.{noSlot, slotOf, showing, reaches, bankSlot}
+use Rattle.registers.specs.BankLaws.{packed-same}
 use Rattle.distributor.specs.Calls.{read, write, plain, size, writeAccess, writtenAt, after, step, unless, readReply, reply}
 use Rattle.order.specs.OrderFacts.{state}
 

@@ -4,6 +4,3 @@ pub mod OrderFacts
 pub mod ReplyFacts
 pub mod Order
 pub mod Isolation
-pub mod OrderExamples
-pub mod IsolationExamples
-pub mod Corners

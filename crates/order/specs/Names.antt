@@ -1,16 +1,16 @@
 -- Which call names what.
 use Prim.Native.Nat.{ℕ, _+_}
 use mathlib.Core.Bool.{Bool, true, false, _&&_}
-use lib.Dec.{ltb, eqb}
+use lib.Dec.{eqb}
 use Rattle.interrupt.specs.Answer.{within}
-use Rattle.distributor.specs.declared.controller.ControllerConfig.{ControllerConfig}
-use Rattle.distributor.specs.declared.register.Register.{Register}
-use Rattle.distributor.specs.declared.register.Register.the-variants.{Identification, Ctlr, Typer, Iidr, Fields, Reserved}
-use Rattle.distributor.specs.declared.register.Access.{Access}
-use Rattle.distributor.specs.declared.register.Access.the-variants.{To, Refused}
-use Rattle.distributor.specs.declared.register.Direction.the-variants.{Reading}
-use Rattle.distributor.specs.Registers.{decode}
-use Rattle.distributor.specs.Banks.{inTable, reaches}
+use Rattle.registers.specs.declared.controller.ControllerConfig.{ControllerConfig}
+use Rattle.registers.specs.declared.register.Register.the-variants.{Identification, Ctlr, Typer, Iidr, Fields, Reserved}
+use Rattle.registers.specs.declared.register.Access.{Access}
+use Rattle.registers.specs.declared.register.Access.the-variants.{To, Refused}
+use Rattle.registers.specs.declared.register.Direction.the-variants.{Reading}
+use Rattle.registers.specs.Registers.{decode}
+use Rattle.registers.specs.Banks.{inTable}
+use Rattle.slot.specs.BankRule.{reaches}
 use Rattle.distributor.specs.Calls.{Call, create, read, write, isEnabled, rollback, claimSoftware, claimPhysical, release, operate, ask, writeAccess, switchBit}
 
 -- what a call may name: the master switch, or an SPI

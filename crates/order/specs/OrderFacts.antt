@@ -10,14 +10,14 @@ use borrow.Author.Tests.{leb-true, le-leb}
 use lib.Dec.{leb}
 use lib.ListN.{getElem?}
 use Rattle.theory.specs.Elements.{at-getD, at-all, at-mapAt}
-use Rattle.distributor.specs.declared.controller.ControllerConfig.{ControllerConfig}
-use Rattle.distributor.specs.declared.bank.Slot.{Slot}
+use Rattle.registers.specs.declared.controller.ControllerConfig.{ControllerConfig}
+use Rattle.slot.specs.declared.slot.Slot.{Slot}
 use Rattle.distributor.specs.declared.distributor.DistributorState.{DistributorState}
-use Rattle.distributor.specs.declared.register.Bank.{Bank}
-use Rattle.distributor.specs.declared.register.Register.the-variants.{Identification, Ctlr, Typer, Iidr, Fields, Reserved}
-use Rattle.distributor.specs.declared.register.Access.{Access}
-use Rattle.distributor.specs.declared.register.Access.the-variants.{To, Refused}
-use Rattle.distributor.specs.Banks.{noSlot, slotOf, reaches, bankSlot}
+use Rattle.registers.specs.declared.register.Bank.{Bank}
+use Rattle.registers.specs.declared.register.Register.the-variants.{Identification, Ctlr, Typer, Iidr, Fields, Reserved}
+use Rattle.registers.specs.declared.register.Access.{Access}
+use Rattle.registers.specs.declared.register.Access.the-variants.{To, Refused}
+use Rattle.slot.specs.BankRule.{noSlot, slotOf, reaches, bankSlot}
 use Rattle.distributor.specs.Calls.{Call, create, read, write, isEnabled, rollback, claimSoftware, claimPhysical, release, operate, ask, size, writeAccess, writtenAt, after, switched, switch, step}
 use Rattle.order.specs.Names.{Name, theSwitch, spi, writeNames, names}
 

@@ -11,13 +11,15 @@ use lib.ListN.{getD, getElem?}
 use Rattle.theory.specs.Bools.{both}
 use Rattle.theory.specs.Elements.{at-all, at-mapAt, at-holds}
 use Rattle.interrupt.specs.Answer.{Answer, done, refused}
-use Rattle.distributor.specs.declared.bank.Slot.{Slot}
+use Rattle.slot.specs.declared.slot.Slot.{Slot}
 use Rattle.distributor.specs.declared.distributor.DistributorState.{DistributorState}
-use Rattle.distributor.specs.declared.register.Register.the-variants.{Identification, Ctlr, Typer, Iidr, Fields, Reserved}
-use Rattle.distributor.specs.declared.register.Access.{Access}
-use Rattle.distributor.specs.declared.register.Access.the-variants.{To, Refused}
-use Rattle.distributor.specs.Banks.{inTable, noSlot, slotOf, writeBeyond, bankCandidates}
-use Rattle.distributor.specs.Calls.{Call, create, read, write, isEnabled, rollback, claimSoftware, claimPhysical, release, operate, ask, size, writeAccess, claimed, claimedTo, released, operated, only, writtenAt, after, switched, switch, step, onSpi, claimAnswer, listingUnless, writeReply, reply, operationValues}
+use Rattle.registers.specs.declared.register.Register.the-variants.{Identification, Ctlr, Typer, Iidr, Fields, Reserved}
+use Rattle.registers.specs.declared.register.Access.{Access}
+use Rattle.registers.specs.declared.register.Access.the-variants.{To, Refused}
+use Rattle.registers.specs.Banks.{inTable, writeBeyond}
+use Rattle.slot.specs.BankRule.{noSlot, slotOf, bankCandidates}
+use Rattle.slot.specs.Slots.{claimed, claimedTo, released, operated, claimAnswer, operationValues}
+use Rattle.distributor.specs.Calls.{Call, create, read, write, isEnabled, rollback, claimSoftware, claimPhysical, release, operate, ask, size, writeAccess, only, writtenAt, after, switched, switch, step, onSpi, listingUnless, writeReply, reply}
 
 -- a guest write that is refused 1
 abbrev pub ranBeyond : Call → ℕ → Bool

@@ -10,19 +10,22 @@ use Rattle.theory.specs.Places.{passing}
 use Rattle.theory.specs.PlaceLaws.{passing-agree}
 use Rattle.interrupt.specs.Answer.{Answer, done, refused, within}
 use Rattle.interrupt.specs.Life.{deliverableIn}
-use Rattle.distributor.specs.declared.controller.ControllerConfig.{ControllerConfig}
-use Rattle.distributor.specs.declared.bank.Slot.{Slot}
+use Rattle.registers.specs.declared.controller.ControllerConfig.{ControllerConfig}
+use Rattle.slot.specs.declared.slot.Slot.{Slot}
 use Rattle.distributor.specs.declared.distributor.DistributorState.{DistributorState}
-use Rattle.distributor.specs.declared.register.Bank.{Bank}
-use Rattle.distributor.specs.declared.register.Register.the-variants.{Identification, Ctlr, Typer, Iidr, Fields, Reserved}
-use Rattle.distributor.specs.declared.register.Access.{Access}
-use Rattle.distributor.specs.declared.register.Access.the-variants.{To, Refused}
-use Rattle.distributor.specs.declared.register.Direction.the-variants.{Reading}
-use Rattle.distributor.specs.Registers.{decode}
-use Rattle.distributor.specs.Identity.{ctlrValue}
-use Rattle.distributor.specs.Banks.{bit, owned, inTable, shown, slotOf, lists, showing, bankValue, readBeyond, writeBeyond, reaches, bankSlot, candidate, bankCandidates}
-use Rattle.distributor.specs.BankLaws.{packed-same}
-use Rattle.distributor.specs.Calls.{Call, create, read, write, isEnabled, rollback, claimSoftware, claimPhysical, release, operate, ask, plain, writeAccess, switchBit, unless, deliverableAt, onSpi, claimAnswer, readReply, listing, listingUnless, switchCandidates, writeReply, reply, operationValues, asked}
+use Rattle.registers.specs.declared.register.Bank.{Bank}
+use Rattle.registers.specs.declared.register.Register.the-variants.{Identification, Ctlr, Typer, Iidr, Fields, Reserved}
+use Rattle.registers.specs.declared.register.Access.{Access}
+use Rattle.registers.specs.declared.register.Access.the-variants.{To, Refused}
+use Rattle.registers.specs.declared.register.Direction.the-variants.{Reading}
+use Rattle.registers.specs.Registers.{decode}
+use Rattle.registers.specs.Identity.{ctlrValue}
+use Rattle.registers.specs.Banks.{bit, inTable, shown, lists, readBeyond, writeBeyond}
+use Rattle.slot.specs.Slots.{owned}
+use Rattle.slot.specs.BankRule.{slotOf, showing, bankValue, reaches, bankSlot, candidate, bankCandidates}
+use Rattle.registers.specs.BankLaws.{packed-same}
+use Rattle.slot.specs.Slots.{claimAnswer, operationValues}
+use Rattle.distributor.specs.Calls.{Call, create, read, write, isEnabled, rollback, claimSoftware, claimPhysical, release, operate, ask, plain, writeAccess, switchBit, unless, deliverableAt, onSpi, readReply, listing, listingUnless, switchCandidates, writeReply, reply, asked}
 use Rattle.order.specs.Names.{theSwitch, spi, readNames, writeNames, names}
 use Rattle.order.specs.OrderFacts.{state}
 

@@ -6,28 +6,26 @@ use native.Mathlib.Nat.{pow-zero, div-one}
 use native.Mathlib.Omega.{arith}
 use denote.Ref.{now}
 use Rattle.theory.specs.Places.{passing}
-use Rattle.distributor.specs.Registers.{bitsOf}
-use Rattle.distributor.specs.Banks.{candidate}
+use Rattle.registers.specs.Registers.{bitsOf}
+use Rattle.slot.specs.BankRule.{candidate}
 use Rattle.distributor.specs.Calls.{size}
 use Rattle.distributor.specs.Loops.{withSlots, Told}
-use Rattle.distributor.specs.BankLaws.{candidate-in}
+use Rattle.slot.specs.BankRuleLaws.{candidate-in}
 use Rattle.distributor.proofs.Listing.{told-size, told-room, told-more, table-fits}
-use Rattle.distributor.proofs.Writing.{swept, upTo, none-yet, used, state-more, on-more}
+use Rattle.distributor.proofs.Writing.{swept, upTo, none-yet, state-more, on-more}
+use Rattle.registers.proofs.Digits.{used}
 use Rattle.theory.specs.Bools.{both}
 use Rattle.theory.specs.MapLaws.{mapAt-still}
 use Rattle.distributor.proofs.distributor.write_fields.Statement.{statement}
 use Rattle.distributor.proofs.distributor.write_fields.Tie as tie
 
 abbrev Inv-loop : tie.InvT-loop
-Inv-loop bank lo m value tells list₀ d₀ n explicit lists v₀ count₀ j₀ list d v count j =
+Inv-loop bank lo m value tells list₀ d₀ spis explicit lists v₀ count₀ j₀ list d v count j =
     (j ≤ m) × (v ≡ value / (2 ^ bitsOf bank) ^ j) × (d ≡ withSlots d₀ (swept (d₀ .config) (size d₀) bank value lo (d₀ .slots) j))
     × Told (passing (λ i. tells && candidate (d₀ .config) (size d₀) bank value lo m (d₀ .slots) i) lo j) list₀ list count
 
 abbrev μ-loop : tie.MeasureT-loop
-μ-loop bank lo m value tells list₀ d₀ n explicit lists v₀ count₀ j₀ list d v count j = m - j
-
-size-requires : tie.Need-size-requires Inv-loop μ-loop
-size-requires c κs = tt
+μ-loop bank lo m value tells list₀ d₀ spis explicit lists v₀ count₀ j₀ list d v count j = m - j
 
 is-explicit-requires : tie.Need-is-explicit-requires Inv-loop μ-loop
 is-explicit-requires c κs = tt
@@ -37,7 +35,7 @@ lists-requires c κs = tt
 
 loop-holds : tie.Need-loop-holds Inv-loop μ-loop
 loop-holds c =
-    let a = c .before .before .before .before .args in (
+    let a = c .before .before .before .args in (
       omega arith,
       rw (pow-zero (2 ^ bitsOf (a .bank)), div-one (a .value)),
       ap (withSlots (a .t1)) (sym (mapAt-still (upTo (a .t1 .config) (size (a .t1)) (a .bank) (a .value) (a .lo) (a .t1 .slots) 0) (a .t1 .slots) (λ p s. none-yet (a .t1 .config) (size (a .t1)) (a .bank) (a .value) (a .lo) (a .t1 .slots) p s))),
@@ -45,13 +43,13 @@ loop-holds c =
     )
 
 add-i : tie.Need-add-i Inv-loop μ-loop
-add-i c = omega (arith, c .before .before .before .before .before .before .pre)
+add-i c = omega (arith, c .before .before .before .before .before .pre)
 
 lowest-requires : tie.Need-lowest-requires Inv-loop μ-loop
 lowest-requires c κs = tt
 
 or-first-requires : tie.Need-or-first-requires Inv-loop μ-loop
-or-first-requires c κs = omega (arith, c .before .before .before .before .before .size .ensures)
+or-first-requires c κs = tt
 
 index-requires : tie.Need-index-requires Inv-loop μ-loop
 index-requires c κs = tt
@@ -63,7 +61,7 @@ element-copy-out-old : tie.Need-element-copy-out-old Inv-loop μ-loop
 element-copy-out-old c = rw (c .index .ensures) (c .before .or-first .ensures .1)
 
 in-table-requires : tie.Need-in-table-requires Inv-loop μ-loop
-in-table-requires c κs = omega (arith, c .before .before .before .before .before .before .before .before .size .ensures)
+in-table-requires c κs = tt
 
 acts-requires : tie.Need-acts-requires Inv-loop μ-loop
 acts-requires c κs = tt
@@ -96,15 +94,14 @@ note-requires c κs =
     let l = il .before .loop in
     let ls = il .before .before in
     let ex = ls .before in
-    let sz = ex .before in
-    let st = sz .before .before in
+    let st = ex .before .before in
     let a = st .args in
     let t : ℕ → Bool = λ i. a .tells && candidate (a .t1 .config) (size (a .t1)) (a .bank) (a .value) (a .lo) (a .m) (a .t1 .slots) i in
     let inside : (i : ℕ) → t i ≡ true → (32 ≤ i) × (i < 32 + size (a .t1)) =
     λ i e. candidate-in (a .t1 .config) (size (a .t1)) (a .bank) (a .value) (a .lo) (a .m) (a .t1 .slots) i (both (a .tells) _ e .1) in
     let on =
-    on-more (a .t1) (a .bank) (a .lo) (a .m) (a .value) (a .tells) (l .j) (ix .index .result) (lw .lowest .result) (sz .size .result) (it .in-table .result) (ex .is-explicit .result) (ac .acts .result) (ow .owned .result) (ls .lists .result) (tc .touched .result) (l .d) (l .v)
-    (l .inv .2) (it .in-table .ensures) (sz .size .ensures) (ex .is-explicit .ensures) (ix .index .ensures ∙ of .or-first .ensures .0) (lw .lowest .ensures) (l .inv .1) (ac .acts .ensures) (ow .owned .ensures) (ls .lists .ensures) (tc .touched .ensures) (il .loop-test .taken) in
+    on-more (a .t1) (a .bank) (a .lo) (a .m) (a .value) (a .tells) (l .j) (ix .index .result) (lw .lowest .result) (size (a .t1)) (it .in-table .result) (ex .is-explicit .result) (ac .acts .result) (ow .owned .result) (ls .lists .result) (tc .touched .result) (l .d) (l .v)
+    (l .inv .2) (it .in-table .ensures) refl (ex .is-explicit .ensures) (ix .index .ensures ∙ of .or-first .ensures .0) (lw .lowest .ensures) (l .inv .1) (ac .acts .ensures) (ow .owned .ensures) (ls .lists .ensures) (tc .touched .ensures) (il .loop-test .taken) in
     λ h. told-room t (a .lo) (now (a .list)) (a .m) (table-fits t (a .lo) (now (a .list)) (size (a .t1)) (a .m) inside (st .pre .2)) (l .j) (l .list) (l .count) (il .loop-test .taken) (l .inv .3) (sym (ap (λ (x : Bool). a .tells && ls .lists .result && (it .in-table .result && ac .acts .result && ow .owned .result) && x) (c .deliverable .ensures) ∙ on) ∙ h)
 
 above-requires : tie.Need-above-requires Inv-loop μ-loop
@@ -113,7 +110,7 @@ above-requires c κs = tt
 add-j : tie.Need-add-j Inv-loop μ-loop
 add-j c =
     let il = c .before .before .before .before .before .before .before .before .before .before .before .before .before .before .before in
-    omega (arith, il .loop-test .taken, il .before .before .before .before .before .before .pre)
+    omega (arith, il .loop-test .taken, il .before .before .before .before .before .pre)
 
 loop-less : tie.Need-loop-less Inv-loop μ-loop
 loop-less c = omega arith
@@ -133,26 +130,25 @@ loop-again c =
     let l = il .before .loop in
     let ls = il .before .before in
     let ex = ls .before in
-    let sz = ex .before in
-    let st = sz .before .before in
+    let st = ex .before .before in
     let a = st .args in
     let t : ℕ → Bool = λ i. a .tells && candidate (a .t1 .config) (size (a .t1)) (a .bank) (a .value) (a .lo) (a .m) (a .t1 .slots) i in
     let inside : (i : ℕ) → t i ≡ true → (32 ≤ i) × (i < 32 + size (a .t1)) =
     λ i e. candidate-in (a .t1 .config) (size (a .t1)) (a .bank) (a .value) (a .lo) (a .m) (a .t1 .slots) i (both (a .tells) _ e .1) in
     let on =
-    on-more (a .t1) (a .bank) (a .lo) (a .m) (a .value) (a .tells) (l .j) (ix .index .result) (lw .lowest .result) (sz .size .result) (it .in-table .result) (ex .is-explicit .result) (ac .acts .result) (ow .owned .result) (ls .lists .result) (tc .touched .result) (l .d) (l .v)
-    (l .inv .2) (it .in-table .ensures) (sz .size .ensures) (ex .is-explicit .ensures) (ix .index .ensures ∙ of .or-first .ensures .0) (lw .lowest .ensures) (l .inv .1) (ac .acts .ensures) (ow .owned .ensures) (ls .lists .ensures) (tc .touched .ensures) (il .loop-test .taken) in (
+    on-more (a .t1) (a .bank) (a .lo) (a .m) (a .value) (a .tells) (l .j) (ix .index .result) (lw .lowest .result) (size (a .t1)) (it .in-table .result) (ex .is-explicit .result) (ac .acts .result) (ow .owned .result) (ls .lists .result) (tc .touched .result) (l .d) (l .v)
+    (l .inv .2) (it .in-table .ensures) refl (ex .is-explicit .ensures) (ix .index .ensures ∙ of .or-first .ensures .0) (lw .lowest .ensures) (l .inv .1) (ac .acts .ensures) (ow .owned .ensures) (ls .lists .ensures) (tc .touched .ensures) (il .loop-test .taken) in (
       omega (arith, il .loop-test .taken),
       c .above .ensures ∙ used (2 ^ bitsOf (a .bank)) (a .value) (l .v) (l .j) (l .inv .1),
-      state-more (a .t1) (a .bank) (a .lo) (a .m) (a .value) (a .tells) (l .j) (ix .index .result) (lw .lowest .result) (sz .size .result) (it .in-table .result) (ex .is-explicit .result) (ac .acts .result) (ow .owned .result) (ls .lists .result) (tc .touched .result) (l .d) (l .v)
-          (l .inv .2) (it .in-table .ensures) (sz .size .ensures) (ex .is-explicit .ensures) (ix .index .ensures ∙ of .or-first .ensures .0) (lw .lowest .ensures) (l .inv .1) (ac .acts .ensures) (ow .owned .ensures) (ls .lists .ensures) (tc .touched .ensures),
+      state-more (a .t1) (a .bank) (a .lo) (a .m) (a .value) (a .tells) (l .j) (ix .index .result) (lw .lowest .result) (size (a .t1)) (it .in-table .result) (ex .is-explicit .result) (ac .acts .result) (ow .owned .result) (ls .lists .result) (tc .touched .result) (l .d) (l .v)
+          (l .inv .2) (it .in-table .ensures) refl (ex .is-explicit .ensures) (ix .index .ensures ∙ of .or-first .ensures .0) (lw .lowest .ensures) (l .inv .1) (ac .acts .ensures) (ow .owned .ensures) (ls .lists .ensures) (tc .touched .ensures),
       rw (nt .note .ensures .0, nt .note .ensures .1) (told-more t (a .lo) (now (a .list)) (a .m) (table-fits t (a .lo) (now (a .list)) (size (a .t1)) (a .m) inside (st .pre .2)) (l .j) (l .list) (l .count) _ (il .loop-test .taken) (l .inv .3)
           (ap (λ (x : Bool). a .tells && ls .lists .result && (it .in-table .result && ac .acts .result && ow .owned .result) && x) (dl .deliverable .ensures) ∙ on)),
     )
 
 same-length : tie.Need-same-length Inv-loop μ-loop
 same-length c =
-    let st = c .before .before .before .before .before .before in
+    let st = c .before .before .before .before .before in
     let a = st .args in
     let l = c .before .loop in
     let t : ℕ → Bool = λ i. a .tells && candidate (a .t1 .config) (size (a .t1)) (a .bank) (a .value) (a .lo) (a .m) (a .t1 .slots) i in
@@ -162,7 +158,7 @@ same-length c =
 
 returns : tie.Need-returns Inv-loop μ-loop
 returns c =
-    let z : c .before .loop .j ≡ c .before .before .before .before .before .before .args .m = omega arith in
+    let z : c .before .loop .j ≡ c .before .before .before .before .before .args .m = omega arith in
     (rw z at (c .before .loop .inv .2), rw z at (c .before .loop .inv .3))
 
 pub write-fields-spec : {M : Type 1} → statement M
@@ -171,7 +167,6 @@ write-fields-spec =
     (tie.spec
     Inv-loop
     μ-loop
-    size-requires
     is-explicit-requires
     lists-requires
     loop-holds

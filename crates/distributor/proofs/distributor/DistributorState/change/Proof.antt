@@ -1,20 +1,17 @@
 -- `change` meets its contract: the slot at the SPI's place is changed, or the call is refused.
 use mathlib.Core.Path.{_≡_, refl, sym, ap, _∙_}
 use native.Mathlib.Omega.{arith}
-use Rattle.distributor.specs.BankLaws.{in-range}
+use Rattle.registers.specs.BankLaws.{in-range}
 use lib.ListN.{set}
-use Rattle.distributor.specs.declared.host.ChangeAnswer.{ChangeAnswer}
+use Rattle.slot.specs.declared.change.ChangeAnswer.{ChangeAnswer}
 use Rattle.distributor.specs.Calls.{size}
 use Rattle.distributor.specs.Loops.{withSlots}
-use Rattle.distributor.specs.Places.{toldPlace, placeAnswer}
+use Rattle.registers.specs.Places.{toldPlace, placeAnswer}
 use Rattle.interrupt.specs.Answer.{toldRefusal}
 use Rattle.distributor.proofs.Hosting.{at-place, off-place, changed-at, changed-off}
 use borrow.Author.Needs.{needs}
 use Rattle.distributor.proofs.distributor.DistributorState.change.Statement.{statement}
 use Rattle.distributor.proofs.distributor.DistributorState.change.Tie as tie
-
-size-requires : tie.Need-size-requires
-size-requires c κs = search needs
 
 raw-requires : tie.Need-raw-requires
 raw-requires c κs = search needs
@@ -33,10 +30,9 @@ mul-old c =
     let pc = c .before .before in
     let nw = pc .before .before in
     let rw′ = nw .before in
-    let sz = rw′ .before in
-    let a = sz .before .args in
-    let k = at-place (a .t1) (a .spi .0) (pc .place .given .0 .0 .0) (sz .size .result) (sz .size .ensures)
-    (sym (ap toldPlace (pc .place .given .1)) ∙ nw .new .ensures ∙ ap (placeAnswer (sz .size .result)) (rw′ .raw .ensures)) in
+    let a = rw′ .before .args in
+    let k = at-place (a .t1) (a .spi .0) (pc .place .given .0 .0 .0) (size (a .t1)) refl
+    (sym (ap toldPlace (pc .place .given .1)) ∙ nw .new .ensures ∙ ap (placeAnswer (size (a .t1))) (rw′ .raw .ensures)) in
     let r = in-range (size (a .t1)) (a .spi .0) (k .0) in omega (arith, r, k .1, c .index .ensures)
 
 element-copy-out-old : tie.Need-element-copy-out-old
@@ -44,25 +40,23 @@ element-copy-out-old c =
     let pc = c .before .before in
     let nw = pc .before .before in
     let rw′ = nw .before in
-    let sz = rw′ .before in
-    let a = sz .before .args in
-    let k = at-place (a .t1) (a .spi .0) (pc .place .given .0 .0 .0) (sz .size .result) (sz .size .ensures)
-    (sym (ap toldPlace (pc .place .given .1)) ∙ nw .new .ensures ∙ ap (placeAnswer (sz .size .result)) (rw′ .raw .ensures)) in
+    let a = rw′ .before .args in
+    let k = at-place (a .t1) (a .spi .0) (pc .place .given .0 .0 .0) (size (a .t1)) refl
+    (sym (ap toldPlace (pc .place .given .1)) ∙ nw .new .ensures ∙ ap (placeAnswer (size (a .t1))) (rw′ .raw .ensures)) in
     let r = in-range (size (a .t1)) (a .spi .0) (k .0) in omega (arith, r, k .1, c .index .ensures)
 
 changed-requires : tie.Need-changed-requires
 changed-requires c κs = search needs
 
-mul-t14 : tie.Need-mul-t14
-mul-t14 c =
+mul-t13 : tie.Need-mul-t13
+mul-t13 c =
     let ix = c .before .before in
     let pc = ix .before .before in
     let nw = pc .before .before in
     let rw′ = nw .before in
-    let sz = rw′ .before in
-    let a = sz .before .args in
-    let k = at-place (a .t1) (a .spi .0) (pc .place .given .0 .0 .0) (sz .size .result) (sz .size .ensures)
-    (sym (ap toldPlace (pc .place .given .1)) ∙ nw .new .ensures ∙ ap (placeAnswer (sz .size .result)) (rw′ .raw .ensures)) in
+    let a = rw′ .before .args in
+    let k = at-place (a .t1) (a .spi .0) (pc .place .given .0 .0 .0) (size (a .t1)) refl
+    (sym (ap toldPlace (pc .place .given .1)) ∙ nw .new .ensures ∙ ap (placeAnswer (size (a .t1))) (rw′ .raw .ensures)) in
     let r = in-range (size (a .t1)) (a .spi .0) (k .0) in omega (arith, r, k .1, ix .index .ensures)
 
 element-set-from-self : tie.Need-element-set-from-self
@@ -71,10 +65,9 @@ element-set-from-self c =
     let pc = ix .before .before in
     let nw = pc .before .before in
     let rw′ = nw .before in
-    let sz = rw′ .before in
-    let a = sz .before .args in
-    let k = at-place (a .t1) (a .spi .0) (pc .place .given .0 .0 .0) (sz .size .result) (sz .size .ensures)
-    (sym (ap toldPlace (pc .place .given .1)) ∙ nw .new .ensures ∙ ap (placeAnswer (sz .size .result)) (rw′ .raw .ensures)) in
+    let a = rw′ .before .args in
+    let k = at-place (a .t1) (a .spi .0) (pc .place .given .0 .0 .0) (size (a .t1)) refl
+    (sym (ap toldPlace (pc .place .given .1)) ∙ nw .new .ensures ∙ ap (placeAnswer (size (a .t1))) (rw′ .raw .ensures)) in
     let r = in-range (size (a .t1)) (a .spi .0) (k .0) in omega (arith, r, k .1, ix .index .ensures)
 
 answer-requires : tie.Need-answer-requires
@@ -90,10 +83,9 @@ returns c =
     let pc = ix .before .before in
     let nw = pc .before .before in
     let rw′ = nw .before in
-    let sz = rw′ .before in
-    let a = sz .before .args in
-    let k = at-place (a .t1) (a .spi .0) (pc .place .given .0 .0 .0) (sz .size .result) (sz .size .ensures)
-    (sym (ap toldPlace (pc .place .given .1)) ∙ nw .new .ensures ∙ ap (placeAnswer (sz .size .result)) (rw′ .raw .ensures)) in
+    let a = rw′ .before .args in
+    let k = at-place (a .t1) (a .spi .0) (pc .place .given .0 .0 .0) (size (a .t1)) refl
+    (sym (ap toldPlace (pc .place .given .1)) ∙ nw .new .ensures ∙ ap (placeAnswer (size (a .t1))) (rw′ .raw .ensures)) in
     changed-at (a .t1) (a .spi .0) (a .change) (ix .index .result) (ch .changed .result) (record { state = withSlots (a .t1) (set (a .t1 .slots) (ix .index .result) (ch .changed .result)); answer = c .answer .result }) (k .0) (ix .index .ensures ∙ k .1) (ch .changed .ensures) refl (c .answer .ensures)
 
 returns-2 : tie.Need-returns-2
@@ -101,17 +93,15 @@ returns-2 c =
     let rf = c .before in
     let nw = rf .before .before in
     let rw′ = nw .before in
-    let sz = rw′ .before in
-    let a = sz .before .args in
-    let k = off-place (a .t1) (a .spi .0) (rf .refusal .given .0 .0) (sz .size .result) (sz .size .ensures)
-    (sym (ap toldPlace (rf .refusal .given .1)) ∙ nw .new .ensures ∙ ap (placeAnswer (sz .size .result)) (rw′ .raw .ensures)) in
+    let a = rw′ .before .args in
+    let k = off-place (a .t1) (a .spi .0) (rf .refusal .given .0 .0) (size (a .t1)) refl
+    (sym (ap toldPlace (rf .refusal .given .1)) ∙ nw .new .ensures ∙ ap (placeAnswer (size (a .t1))) (rw′ .raw .ensures)) in
     changed-off (a .t1) (a .spi .0) (a .change) (record { state = a .t1; answer = ChangeAnswer.Refused (rf .refusal .given .0 .0) }) (k .0) refl (ap toldRefusal (k .1))
 
 pub change-spec : {M : Type 1} → statement M
 change-spec =
     tie.close
     (tie.spec
-    size-requires
     raw-requires
     new-requires
     enum-known-place
@@ -119,7 +109,7 @@ change-spec =
     mul-old
     element-copy-out-old
     changed-requires
-    mul-t14
+    mul-t13
     element-set-from-self
     answer-requires
     enum-known-refusal

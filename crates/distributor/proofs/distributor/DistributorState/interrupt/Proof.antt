@@ -1,16 +1,13 @@
 -- `interrupt` meets its contract.
-use mathlib.Core.Path.{_≡_, sym, ap, _∙_}
+use mathlib.Core.Path.{_≡_, refl, sym, ap, _∙_}
 use native.Mathlib.Omega.{arith}
-use Rattle.distributor.specs.BankLaws.{in-range}
+use Rattle.registers.specs.BankLaws.{in-range}
 use Rattle.distributor.specs.Calls.{size}
-use Rattle.distributor.specs.Places.{toldPlace, placeAnswer}
+use Rattle.registers.specs.Places.{toldPlace, placeAnswer}
 use Rattle.distributor.proofs.Hosting.{at-place, off-place}
 use borrow.Author.Needs.{needs}
 use Rattle.distributor.proofs.distributor.DistributorState.interrupt.Statement.{statement}
 use Rattle.distributor.proofs.distributor.DistributorState.interrupt.Tie as tie
-
-size-requires : tie.Need-size-requires
-size-requires c κs = search needs
 
 raw-requires : tie.Need-raw-requires
 raw-requires c κs = search needs
@@ -29,10 +26,9 @@ mul-s c =
     let pc = c .before .before in
     let nw = pc .before .before in
     let rw′ = nw .before in
-    let sz = rw′ .before in
-    let a = sz .before .args in
-    let k = at-place (a .t1) (a .spi .0) (pc .place .given .0 .0 .0) (sz .size .result) (sz .size .ensures)
-    (sym (ap toldPlace (pc .place .given .1)) ∙ nw .new .ensures ∙ ap (placeAnswer (sz .size .result)) (rw′ .raw .ensures)) in
+    let a = rw′ .before .args in
+    let k = at-place (a .t1) (a .spi .0) (pc .place .given .0 .0 .0) (size (a .t1)) refl
+    (sym (ap toldPlace (pc .place .given .1)) ∙ nw .new .ensures ∙ ap (placeAnswer (size (a .t1))) (rw′ .raw .ensures)) in
     let r = in-range (size (a .t1)) (a .spi .0) (k .0) in omega (arith, r, k .1, c .index .ensures)
 
 element-copy-out-s : tie.Need-element-copy-out-s
@@ -40,10 +36,9 @@ element-copy-out-s c =
     let pc = c .before .before in
     let nw = pc .before .before in
     let rw′ = nw .before in
-    let sz = rw′ .before in
-    let a = sz .before .args in
-    let k = at-place (a .t1) (a .spi .0) (pc .place .given .0 .0 .0) (sz .size .result) (sz .size .ensures)
-    (sym (ap toldPlace (pc .place .given .1)) ∙ nw .new .ensures ∙ ap (placeAnswer (sz .size .result)) (rw′ .raw .ensures)) in
+    let a = rw′ .before .args in
+    let k = at-place (a .t1) (a .spi .0) (pc .place .given .0 .0 .0) (size (a .t1)) refl
+    (sym (ap toldPlace (pc .place .given .1)) ∙ nw .new .ensures ∙ ap (placeAnswer (size (a .t1))) (rw′ .raw .ensures)) in
     let r = in-range (size (a .t1)) (a .spi .0) (k .0) in omega (arith, r, k .1, c .index .ensures)
 
 enum-known-refusal : tie.Need-enum-known-refusal
@@ -55,10 +50,9 @@ returns c =
     let pc = ix .before .before in
     let nw = pc .before .before in
     let rw′ = nw .before in
-    let sz = rw′ .before in
-    let a = sz .before .args in
-    let k = at-place (a .t1) (a .spi .0) (pc .place .given .0 .0 .0) (sz .size .result) (sz .size .ensures)
-    (sym (ap toldPlace (pc .place .given .1)) ∙ nw .new .ensures ∙ ap (placeAnswer (sz .size .result)) (rw′ .raw .ensures)) in
+    let a = rw′ .before .args in
+    let k = at-place (a .t1) (a .spi .0) (pc .place .given .0 .0 .0) (size (a .t1)) refl
+    (sym (ap toldPlace (pc .place .given .1)) ∙ nw .new .ensures ∙ ap (placeAnswer (size (a .t1))) (rw′ .raw .ensures)) in
     rw (k .0, ix .index .ensures, k .1)
 
 returns-2 : tie.Need-returns-2
@@ -66,17 +60,15 @@ returns-2 c =
     let rf = c .before in
     let nw = rf .before .before in
     let rw′ = nw .before in
-    let sz = rw′ .before in
-    let a = sz .before .args in
-    let k = off-place (a .t1) (a .spi .0) (rf .refusal .given .0 .0) (sz .size .result) (sz .size .ensures)
-    (sym (ap toldPlace (rf .refusal .given .1)) ∙ nw .new .ensures ∙ ap (placeAnswer (sz .size .result)) (rw′ .raw .ensures)) in
+    let a = rw′ .before .args in
+    let k = off-place (a .t1) (a .spi .0) (rf .refusal .given .0 .0) (size (a .t1)) refl
+    (sym (ap toldPlace (rf .refusal .given .1)) ∙ nw .new .ensures ∙ ap (placeAnswer (size (a .t1))) (rw′ .raw .ensures)) in
     rw (k .0, k .1)
 
 pub interrupt-spec : {M : Type 1} → statement M
 interrupt-spec =
     tie.close
     (tie.spec
-    size-requires
     raw-requires
     new-requires
     enum-known-place

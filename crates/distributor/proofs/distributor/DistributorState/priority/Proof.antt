@@ -2,7 +2,8 @@ use mathlib.Core.Path.{sym, ap, _∙_}
 use Rattle.interrupt.specs.declared.types.Priority.{Priority}
 use mathlib.Core.List.{[], _∷_}
 use Rattle.interrupt.specs.Answer.{done}
-use Rattle.distributor.specs.Calls.{priority, plain}
+use Rattle.distributor.specs.Calls.{plain}
+use Rattle.distributor.specs.Calls.{priority}
 use Rattle.distributor.proofs.Hosting.{found, missed}
 use borrow.Author.Needs.{needs}
 use Rattle.distributor.proofs.distributor.DistributorState.priority.Statement.{statement}

@@ -1,9 +1,10 @@
 -- `read` meets its contract: the access is decoded, and its register read.
 use mathlib.Core.Path.{sym, ap, _∙_}
-use Rattle.distributor.specs.declared.register.Direction.the-variants.{Reading}
+use Rattle.registers.specs.declared.register.Direction.the-variants.{Reading}
 use Rattle.distributor.specs.Calls.{readReply, reply}
-use Rattle.distributor.proofs.Rows.{decode-bounded}
+use Rattle.registers.proofs.Rows.{decode-bounded}
 use borrow.Author.Needs.{needs}
+use Rattle.registers.specs.Registers.{decode}
 use Rattle.distributor.proofs.distributor.DistributorState.read.Statement.{statement}
 use Rattle.distributor.proofs.distributor.DistributorState.read.Tie as tie
 

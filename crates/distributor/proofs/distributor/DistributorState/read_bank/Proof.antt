@@ -3,10 +3,11 @@ use Prim.Native.Nat.{ℕ}
 use mathlib.Core.Path.{_≡_, sym, ap, _∙_}
 use mathlib.Core.List.{[], _∷_}
 use Rattle.interrupt.specs.Answer.{done}
-use Rattle.distributor.specs.Banks.{readBeyond, bankValue}
+use Rattle.registers.specs.Banks.{readBeyond}
+use Rattle.slot.specs.BankRule.{bankValue}
 use Rattle.distributor.specs.Calls.{size, plain}
-use Rattle.distributor.specs.Loops.{lowest, toldBeyond}
-use Rattle.distributor.proofs.Refusing.{unless-hit, unless-miss}
+use Rattle.registers.specs.Banks.{lowest, toldBeyond}
+use Rattle.distributor.proofs.Replying.{unless-hit, unless-miss}
 use borrow.Author.Needs.{needs}
 use Rattle.distributor.proofs.distributor.DistributorState.read_bank.Statement.{statement}
 use Rattle.distributor.proofs.distributor.DistributorState.read_bank.Tie as tie

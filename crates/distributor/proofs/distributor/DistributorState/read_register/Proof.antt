@@ -20,9 +20,6 @@ ctlr-requires c κs = search needs
 enum-told-2 : tie.Need-enum-told-2
 enum-told-2 c = search needs
 
-size-requires : tie.Need-size-requires
-size-requires c κs = search needs
-
 typer-requires : tie.Need-typer-requires
 typer-requires c κs = search needs
 
@@ -45,7 +42,7 @@ returns-2 : tie.Need-returns-2
 returns-2 c = rw (c .before .enum-told .given .1, c .ctlr .ensures)
 
 returns-3 : tie.Need-returns-3
-returns-3 c = rw (c .before .before .enum-told2 .given .1, c .typer .ensures, c .before .size .ensures)
+returns-3 c = rw (c .before .enum-told2 .given .1, c .typer .ensures)
 
 returns-4 : tie.Need-returns-4
 returns-4 c = rw (c .enum-told3 .given .1)
@@ -65,7 +62,6 @@ read-register-spec =
     enum-told
     ctlr-requires
     enum-told-2
-    size-requires
     typer-requires
     enum-told-3
     enum-known-register-2

@@ -1,7 +1,8 @@
 use mathlib.Core.Path.{sym, ap, _∙_}
 use Rattle.interrupt.specs.declared.interrupt.Route.{Route}
 use Rattle.interrupt.specs.Answer.{done}
-use Rattle.distributor.specs.Calls.{route, plain, routeValues}
+use Rattle.distributor.specs.Calls.{plain, routeValues}
+use Rattle.distributor.specs.Calls.{route}
 use Rattle.distributor.proofs.Hosting.{found, missed}
 use borrow.Author.Needs.{needs}
 use Rattle.distributor.proofs.distributor.DistributorState.route.Statement.{statement}

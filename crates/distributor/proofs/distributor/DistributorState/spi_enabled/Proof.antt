@@ -2,8 +2,9 @@ use mathlib.Core.Path.{sym, ap, _∙_}
 use mathlib.Core.Bool.{Bool}
 use mathlib.Core.List.{[], _∷_}
 use Rattle.interrupt.specs.Answer.{done}
-use Rattle.distributor.specs.Banks.{bit}
-use Rattle.distributor.specs.Calls.{enabled, plain}
+use Rattle.registers.specs.Banks.{bit}
+use Rattle.distributor.specs.Calls.{plain}
+use Rattle.distributor.specs.Calls.{enabled}
 use Rattle.distributor.proofs.Hosting.{found, missed}
 use borrow.Author.Needs.{needs}
 use Rattle.distributor.proofs.distributor.DistributorState.spi_enabled.Statement.{

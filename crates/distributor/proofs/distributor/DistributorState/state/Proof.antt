@@ -2,7 +2,9 @@ use mathlib.Core.Path.{sym, ap, _∙_}
 use Rattle.interrupt.specs.declared.types.InterruptState.{InterruptState}
 use mathlib.Core.List.{[], _∷_}
 use Rattle.interrupt.specs.Answer.{done}
-use Rattle.distributor.specs.Calls.{state, plain, stateNumber}
+use Rattle.slot.specs.Slots.{stateNumber}
+use Rattle.distributor.specs.Calls.{plain}
+use Rattle.distributor.specs.Calls.{state}
 use Rattle.distributor.proofs.Hosting.{found, missed}
 use borrow.Author.Needs.{needs}
 use Rattle.distributor.proofs.distributor.DistributorState.state.Statement.{statement}

@@ -4,7 +4,7 @@ use mathlib.Core.Bool.{not}
 use mathlib.Core.List.{[], _∷_}
 use Rattle.interrupt.specs.State.{levelOf}
 use Rattle.interrupt.specs.Answer.{done}
-use Rattle.distributor.specs.Banks.{bit}
+use Rattle.registers.specs.Banks.{bit}
 use Rattle.distributor.specs.Calls.{trigger, plain}
 use Rattle.distributor.proofs.Hosting.{found, missed}
 use borrow.Author.Needs.{needs}

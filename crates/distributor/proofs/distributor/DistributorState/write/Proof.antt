@@ -3,10 +3,12 @@ use mathlib.Core.Path.{sym, _∙_}
 use native.Mathlib.Omega.{arith}
 use denote.Ref.{now}
 use Rattle.interrupt.specs.declared.error.Refusal.the-variants.{ShortList}
-use Rattle.distributor.specs.declared.register.Direction.the-variants.{Writing}
+use Rattle.registers.specs.declared.register.Direction.the-variants.{Writing}
 use Rattle.distributor.proofs.Replying.{refused-writes, access-short, access-long, written-so}
-use Rattle.distributor.proofs.Rows.{decode-bounded}
+use Rattle.registers.proofs.Rows.{decode-bounded}
 use borrow.Author.Needs.{needs}
+use Rattle.distributor.specs.Calls.{size}
+use Rattle.registers.specs.Registers.{decode}
 use Rattle.distributor.proofs.distributor.DistributorState.write.Statement.{statement}
 use Rattle.distributor.proofs.distributor.DistributorState.write.Tie as tie
 

@@ -1,0 +1,89 @@
+-- More examples beside the board's twelve: widths and offsets, the table's end in both modes, and the corners of claims.
+use Prim.Native.Nat.{_+_, _^_}
+use mathlib.Core.Path.{_≡_, refl}
+use mathlib.Core.Bool.{true}
+use mathlib.Core.List.{List, [], _∷_}
+use Rattle.theory.specs.Runs.{run}
+use Rattle.interrupt.specs.Answer.{Answer, done, refused}
+use Rattle.interrupt.specs.Affinity.{affinity}
+use Rattle.interrupt.specs.Life.{fresh, routeIn, maskIn, deliverableIn, enabledTo, triggerTo, routeTo, unrouted, priorityTo, maskTo}
+use Rattle.interrupt.specs.declared.types.TriggerMode.the-variants.{Edge}
+use Rattle.interrupt.specs.declared.operation.Operation.the-variants.{SetEnabled, SetTrigger, SetCpuTargetMask}
+use Rattle.distributor.specs.declared.distributor.DistributorState.{DistributorState}
+use Rattle.registers.specs.declared.register.AccessWidth.the-variants.{Byte, Dword}
+use Rattle.registers.specs.Registers.{decode}
+use Rattle.distributor.specs.Calls.{Call, read, write, claimSoftware, claimPhysical, release, operate, ask, route, trigger, enabled, cpuTargetMask, reply, step, created}
+use Rattle.examples.specs.Board.{K, Full}
+use Rattle.examples.specs.OrderExamples.{writes}
+
+-- 40 SPIs, all guest-owned
+abbrev Guest : DistributorState
+Guest = created (Full .config) 40
+
+abbrev told : Call → DistributorState → Answer
+told c d = reply c d .answer
+
+-- what a call is told after the calls
+abbrev then : List Call → Call → DistributorState → Answer
+then calls c d = told c (run step calls d)
+
+-- widths, offsets and ownership
+pub record Accesses : Type 0 where
+  -- a Byte is no access to a flag word, and beside one it reaches nothing
+  pub flag-byte : (told (read 0x100 Byte) K ≡ refused 4 []) × (told (read 0x101 Byte) K ≡ done (0 ∷ []))
+  -- within IROUTER every width but Qword is refused, and past its last register nothing is
+  pub route-byte : (told (read 0x6001 Byte) K ≡ refused 4 []) × (told (read 0x7fe0 Byte) K ≡ done (0 ∷ []))
+  -- bits past the width are ignored
+  pub wide-value : (reply (writes 0x104 (2 ^ 32 + 2)) K ≡ reply (writes 0x104 2) K) × (step (writes 0x104 (2 ^ 32 + 2)) K ≡ step (writes 0x104 2) K)
+  -- an unowned SPI ignores the guest's writes and reads 0
+  pub unowned : (told (writes 0x104 4) K ≡ done (0 ∷ [])) × (step (writes 0x104 4) K ≡ K) × (then (operate (SetEnabled true) 34 ∷ []) (read 0x104 Dword) K ≡ done (0 ∷ []))
+
+-- the table's end, in both modes
+pub record TableEnd : Type 0 where
+  -- ICFGR of 64 to 79, with explicit claims: refused at 72, and 64 and 65 are edge
+  pub configuration : (told (read 0xc10 Dword) K ≡ refused 1 (72 ∷ [])) × (told (writes 0xc10 0xaaaaaaaa) K ≡ refused 1 (72 ∷ [])) × (step (writes 0xc10 0xaaaaaaaa) K ≡ run step (operate (SetTrigger Edge) 64 ∷ operate (SetTrigger Edge) 65 ∷ []) K)
+  -- IPRIORITYR of 72 to 75: refused at 72, and nothing is changed
+  pub priority : (told (read 0x448 Dword) K ≡ refused 1 (72 ∷ [])) × (told (writes 0x448 0x11223344) K ≡ refused 1 (72 ∷ [])) × (step (writes 0x448 0x11223344) K ≡ K)
+  -- the same where all is guest-owned: what is beyond the table reads 0 and ignores writes
+  pub excess-flags : (told (writes 0x108 0xffffffff) Guest ≡ done (0 ∷ [])) × (then (writes 0x108 0xffffffff ∷ []) (read 0x108 Dword) Guest ≡ done (0xff ∷ []))
+  pub excess-configuration : (told (writes 0xc10 0xffffffff) Guest ≡ done (0 ∷ [])) × (then (writes 0xc10 0xffffffff ∷ []) (read 0xc10 Dword) Guest ≡ done (0xaaaa ∷ []))
+  pub excess-priority : (step (writes 0x448 0x11223344) Guest ≡ Guest) × (told (read 0x448 Dword) Guest ≡ done (0 ∷ []))
+
+-- claims, target masks and releases
+pub record Claims : Type 0 where
+  -- a claim works in either mode, and once
+  pub once : (told (claimSoftware 34) Guest ≡ done []) × (then (claimSoftware 34 ∷ []) (claimSoftware 34) Guest ≡ refused 2 []) × (told (claimSoftware 65) K ≡ refused 2 []) × (told (claimSoftware 72) K ≡ refused 1 (72 ∷ []))
+  -- a physical claim drops the target mask, and an unset one reads 1; a mask on a fixed route succeeds and changes nothing
+  pub masks : (then (operate (SetCpuTargetMask 3) 34 ∷ []) (ask cpuTargetMask 34) K ≡ done (3 ∷ [])) × (then (operate (SetCpuTargetMask 3) 34 ∷ claimPhysical 34 (affinity 0 0 0 2) ∷ []) (ask cpuTargetMask 34) K ≡ done (1 ∷ [])) × (told (operate (SetCpuTargetMask 3) 65) K ≡ done []) × (step (operate (SetCpuTargetMask 3) 65) K ≡ K)
+  -- release succeeds on an unclaimed SPI; on a claimed one it clears the route, sets level and keeps enabled
+  pub releases : (told (release 34) K ≡ done []) × (step (release 34) K ≡ K) × (then (release 65 ∷ []) (ask route 65) K ≡ done []) × (then (operate (SetTrigger Edge) 64 ∷ operate (SetEnabled true) 64 ∷ release 64 ∷ []) (ask trigger 64) K ≡ done (0 ∷ [])) × (then (operate (SetTrigger Edge) 64 ∷ operate (SetEnabled true) 64 ∷ release 64 ∷ []) (ask enabled 64) K ≡ done (1 ∷ []))
+
+pub accesses : Accesses
+unfolding reply step decode fresh deliverableIn enabledTo triggerTo routeTo
+accesses =
+    record {
+      flag-byte = (refl, refl);
+      route-byte = (refl, refl);
+      wide-value = (refl, refl);
+      unowned = (refl, refl, refl);
+    }
+
+pub table-end : TableEnd
+unfolding reply step decode fresh deliverableIn enabledTo triggerTo routeTo priorityTo
+table-end =
+    record {
+      configuration = (refl, refl, refl);
+      priority = (refl, refl, refl);
+      excess-flags = (refl, refl);
+      excess-configuration = (refl, refl);
+      excess-priority = (refl, refl);
+    }
+
+pub claims : Claims
+unfolding reply step fresh routeIn maskIn enabledTo triggerTo routeTo unrouted maskTo
+claims =
+    record {
+      once = (refl, refl, refl, refl);
+      masks = (refl, refl, refl, refl);
+      releases = (refl, refl, refl, refl, refl);
+    }

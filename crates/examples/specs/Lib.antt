@@ -1,0 +1,4 @@
+pub mod Board
+pub mod Corners
+pub mod OrderExamples
+pub mod IsolationExamples

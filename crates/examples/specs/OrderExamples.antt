@@ -1,0 +1,156 @@
+-- Examples of the order of calls: what calls name, that calls may change places, and that it matters which may.
+use Prim.Native.Nat.{ℕ, _+_, _-_, _<_}
+use mathlib.Core.Path.{_≡_, refl, sym, ap, _∙_}
+use mathlib.Core.Bool.{Bool, true, false, _&&_, false≢true, true≢false}
+use mathlib.Core.List.{List, [], _∷_, reverse}
+use mathlib.Core.Option.{some}
+use native.Mathlib.Omega.{arith}
+use borrow.Author.Tests.{eqb-true}
+use lib.ListN.{getElem?, replicate}
+use Rattle.theory.specs.Bools.{both}
+use Rattle.theory.specs.Places.{tabulate, passing}
+use Rattle.theory.specs.PlaceLaws.{everywhere}
+use Rattle.theory.specs.Elements.{at-tabulate}
+use Rattle.theory.specs.Runs.{run, answers, Share, Matching}
+use Rattle.theory.specs.Matchings.{swap, reversal}
+use Rattle.interrupt.specs.Answer.{done, refused, within}
+use Rattle.interrupt.specs.Life.{fresh, deliverableIn, enabledTo, routeTo}
+use Rattle.interrupt.specs.declared.operation.Operation.{Operation}
+use Rattle.interrupt.specs.declared.operation.Operation.the-variants.{SetEnabled}
+use Rattle.distributor.specs.declared.distributor.DistributorState.{DistributorState}
+use Rattle.registers.specs.declared.register.AccessWidth.the-variants.{Byte, Dword, Qword}
+use Rattle.registers.specs.Registers.{decode}
+use Rattle.registers.specs.Banks.{inTable}
+use Rattle.registers.specs.BankLaws.{in-range}
+use Rattle.distributor.specs.Calls.{Call, create, read, write, isEnabled, rollback, release, operate, ask, enabled, step, reply, plain, size}
+use Rattle.order.specs.Names.{theSwitch, spi, names}
+use Rattle.examples.specs.Board.{K}
+use Rattle.order.specs.Order.{named, ordered}
+
+abbrev pub writes : ℕ → ℕ → Call
+writes offset v = write offset Dword v (replicate 40 0)
+
+-- ---- what calls on K name
+
+-- the SPIs that a call names
+abbrev spis : Call → List ℕ
+spis k = passing (λ i. named K k (spi i)) 0 1024
+
+-- the SPIs, and whether it names the switch
+abbrev namesOf : Call → List ℕ × Bool
+namesOf k = (spis k, named K k theSwitch)
+
+-- m INTIDs from lo on
+abbrev from : ℕ → ℕ → List ℕ
+from lo m = tabulate (λ i. i) lo m
+
+pub record NamedOnK : Type 0 where
+  pub flag-read : (spis (read 0x104 Dword) ≡ from 32 32) × (spis (read 0x108 Dword) ≡ from 64 8)
+  -- refused 1 (72), and names what it has written
+  pub flag-write : spis (writes 0x108 0x1f9) ≡ 64 ∷ from 67 5
+  pub priority : (spis (read 0x424 Dword) ≡ from 36 4) × (spis (writes 0x424 0) ≡ from 36 4)
+  pub configuration : spis (writes 0xc0c 0) ≡ from 48 16
+  pub route : (spis (read 0x6108 Qword) ≡ from 33 1) × (spis (write 0x6110 Qword 0 (replicate 40 0)) ≡ from 34 1)
+  pub group-write : spis (writes 0x84 0xffffffff) ≡ []
+  pub host : (spis (release 34) ≡ from 34 1) × (spis (release 72) ≡ [])
+  pub refused-3-4-5 : (spis (read 0x106 Dword) ≡ []) × (spis (read 0x104 Byte) ≡ []) × (spis (write 0x104 Dword 2 (replicate 39 0)) ≡ [])
+  pub control : (spis (writes 0 2) ≡ from 32 40) × (spis (writes 0 1) ≡ []) × (spis (read 0 Dword) ≡ [])
+  pub switch : (named K (writes 0 2) theSwitch ≡ true) × (named K (writes 0 1) theSwitch ≡ true) × (named K (read 0 Dword) theSwitch ≡ true) × (named K isEnabled theSwitch ≡ true) × (named K (rollback true) theSwitch ≡ true)
+  pub no-switch : (named K (read 0x104 Dword) theSwitch ≡ false) × (named K (writes 0x104 2) theSwitch ≡ false) × (named K (read 0 Byte) theSwitch ≡ false)
+  -- TYPER, an offset with no register, and the creation of another Distributor
+  pub rest : (namesOf (read 0x4 Dword) ≡ ([], false)) × (namesOf (writes 0x800 2) ≡ ([], false)) × (namesOf (create (K .config) 988) ≡ ([], false))
+
+pub named-on-K : NamedOnK
+unfolding names step decode
+named-on-K =
+    record {
+      flag-read = (refl, refl);
+      flag-write = refl;
+      priority = (refl, refl);
+      configuration = refl;
+      route = (refl, refl);
+      group-write = refl;
+      host = (refl, refl);
+      refused-3-4-5 = (refl, refl, refl);
+      control = (refl, refl, refl);
+      switch = (refl, refl, refl, refl, refl);
+      no-switch = (refl, refl, refl);
+      rest = (refl, refl, refl);
+    }
+
+-- ---- calls that may change places
+
+-- an operation on each SPI from 32 on
+abbrev each : (ℕ → Operation) → ℕ → List Call
+each o n = tabulate (λ p. operate (o p) (32 + p)) 0 n
+
+each-apart : (d : DistributorState) (o o′ : Operation) (i j : ℕ) → i < j → ¬ Share (named d) (operate o (32 + i)) (operate o′ (32 + j))
+unfolding names
+each-apart d o o′ i j h (theSwitch, p, q) = false≢true p
+each-apart d o o′ i j h (spi a, p, q) =
+    let u = eqb-true a (32 + i) (both (inTable (size d) a) _ p .1) in
+    let v = eqb-true a (32 + j) (both (inTable (size d) a) _ q .1) in
+    omega arith
+
+-- operations on different SPIs may be done the last first: the whole list backward
+pub backward : (d : DistributorState) (o : ℕ → Operation) (n : ℕ) → Matching (named d) (each o n) (reverse (each o n))
+backward d o n =
+    reversal (named d) (each o n)
+    (λ i j k l p q h.
+    let u : operate (o i) (32 + i) ≡ k = ap (λ (a : ℕ). operate (o a) (32 + a)) (omega arith) ∙ at-tabulate (λ p. operate (o p) (32 + p)) 0 n i k p in
+    let v : operate (o j) (32 + j) ≡ l = ap (λ (a : ℕ). operate (o a) (32 + a)) (omega arith) ∙ at-tabulate (λ p. operate (o p) (32 + p)) 0 n j l q in
+    rw (← u, ← v) (each-apart d (o i) (o j) i j h))
+
+-- so both orders end in one state
+pub backward-same : (d : DistributorState) (o : ℕ → Operation) (n : ℕ) → run step (each o n) d ≡ run step (reverse (each o n)) d
+backward-same d o n = ordered d .reordering (each o n) (reverse (each o n)) (backward d o n) .0
+
+-- an SPI that the two writes below would share
+abbrev bothName : ℕ → Bool
+bothName i = named K (writes 0x104 2) (spi i) && named K (writes 0x104 4) (spi i)
+
+bits-apart : ¬ Share (named K) (writes 0x104 2) (writes 0x104 4)
+unfolding names step decode
+bits-apart (theSwitch, p, q) = false≢true p
+bits-apart (spi i, p, q) =
+    let (low, high) = in-range 32 i (both (within 32 64 i) _ (both (within 32 64 i && inTable 40 i) _ p .0) .0) in
+    let none : bothName (32 + (i - 32)) ≡ false = everywhere (λ k. bothName (32 + k)) (λ k. false) 32 refl (i - 32) (omega arith) in
+    let z : 32 + (i - 32) ≡ i = omega arith in
+    true≢false (sym (joined p q) ∙ ap bothName (sym z) ∙ none)
+  where
+    joined : {a b : Bool} → a ≡ true → b ≡ true → (a && b) ≡ true
+    joined p q = rw (p, q)
+
+-- two writes to one register of flags, each with a bit of its own, may be swapped: 33 and 34 enabled, then any calls
+pub swapped : (calls : List Call) → Matching (named K) (writes 0x104 2 ∷ writes 0x104 4 ∷ calls) (writes 0x104 4 ∷ writes 0x104 2 ∷ calls)
+swapped calls = swap (named K) (writes 0x104 2) (writes 0x104 4) calls bits-apart
+
+-- ---- calls that may not
+
+abbrev enable : Call
+enable = operate (SetEnabled true) 33
+
+abbrev asks : Call
+asks = ask enabled 33
+
+-- two calls on one SPI: their order changes an answer, and they have no matching
+pub order-matters : (answers step reply (enable ∷ asks ∷ []) K ≡ plain (done []) ∷ plain (done (1 ∷ [])) ∷ [])
+    × (answers step reply (asks ∷ enable ∷ []) K ≡ plain (done (0 ∷ [])) ∷ plain (done []) ∷ [])
+unfolding step reply fresh enabledTo
+order-matters = (refl, refl)
+
+pub unmatched : ¬ Matching (named K) (enable ∷ asks ∷ []) (asks ∷ enable ∷ [])
+unfolding names step
+unmatched m =
+    let first : m .to 0 < m .to 1 = m .kept 0 1 enable asks refl refl (spi 33, refl, refl) (omega arith) in
+    let inside = m .to-in 1 (omega arith) in
+    let z : m .to 0 ≡ 0 = omega arith in
+    let same : getElem? (asks ∷ enable ∷ []) 0 ≡ some enable = ap (getElem? (asks ∷ enable ∷ [])) (sym z) ∙ m .same 0 (omega arith) in
+    let no : _≡_ {A = ℕ} 0 1 = cc in
+    omega arith
+
+-- a write that is refused 1 counts: before it 64 and 65 read as disabled, after it as enabled
+pub refused-matters : (answers step reply (read 0x108 Dword ∷ writes 0x108 0x1ff ∷ read 0x108 Dword ∷ []) K
+    ≡ plain (done (0 ∷ [])) ∷ record { answer = refused 1 (72 ∷ []); list = replicate 40 0 } ∷ plain (done (3 ∷ [])) ∷ [])
+unfolding step reply decode fresh deliverableIn enabledTo routeTo
+refused-matters = refl

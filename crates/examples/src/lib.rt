@@ -1,0 +1,1 @@
+// Examples that are computed from the definitions. There is no code here.

@@ -1,0 +1,4 @@
+pub mod Digits
+pub mod Refusing
+pub mod Rows
+pub mod Widths

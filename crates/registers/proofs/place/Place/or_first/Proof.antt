@@ -1,0 +1,25 @@
+use mathlib.Core.Path.{sym, _∙_}
+use native.Mathlib.Omega.{arith}
+use Rattle.registers.specs.BankLaws.{in-range}
+use Rattle.registers.specs.Places.{tableSize}
+use borrow.Author.Needs.{needs}
+use Rattle.registers.proofs.place.Place.or_first.Statement.{statement}
+use Rattle.registers.proofs.place.Place.or_first.Tie as tie
+
+in-table-requires : tie.Need-in-table-requires
+in-table-requires c κs = search needs
+
+sub-t5 : tie.Need-sub-t5
+sub-t5 c = omega (arith, in-range (tableSize (c .before .before .args .count)) (c .before .before .args .i) (sym (c .before .in-table .ensures) ∙ c .if1 .taken))
+
+cast-t6 : tie.Need-cast-t6
+cast-t6 c = search needs
+
+returns : tie.Need-returns
+returns c = let t = sym (c .before .in-table .ensures) ∙ c .if1 .taken in (rw t, omega (arith, in-range (tableSize (c .before .before .args .count)) (c .before .before .args .i) t))
+
+returns-2 : tie.Need-returns-2
+returns-2 c = let t = sym (c .before .in-table .ensures) ∙ c .if1 .left in (rw t, omega arith)
+
+pub or-first-spec : {M : Type 1} → statement M
+or-first-spec = tie.close (tie.spec in-table-requires sub-t5 cast-t6 returns returns-2)

@@ -1,0 +1,103 @@
+-- The register map is sound: no offset has two registers, and a bank's registers cover the INTIDs that Arm's specification gives them.
+use Prim.Native.Nat.{ℕ, _+_, _-_, _*_, _/_, _%_, _≤_, _<_}
+use mathlib.Core.Path.{_≡_, refl}
+use mathlib.Core.Bool.{Bool, true, false, _&&_, _||_}
+use mathlib.Core.List.{List, [], _∷_}
+use mathlib.Core.Logic.{⊎-elim}
+use native.Mathlib.Omega.{arith}
+use borrow.Author.Tests.{leb-true, ltb-true}
+use mir.Val.{boolByte}
+use lib.Dec.{leb}
+use lib.ListN.{getD}
+use Rattle.theory.specs.Bools.{both, either, refuted}
+use Rattle.interrupt.specs.Answer.{within}
+use Rattle.theory.specs.PlaceLaws.{everywhere}
+use Rattle.registers.specs.declared.register.AccessWidth.the-variants.{Byte, Dword, Qword}
+use Rattle.registers.specs.declared.register.Bank.{Bank}
+use Rattle.registers.specs.declared.register.Bank.the-variants.{Igroupr, Isenabler, Icenabler, Ispendr, Icpendr, Isactiver, Icactiver, Ipriorityr, Icfgr, Irouter}
+use Rattle.registers.specs.declared.register.Register.the-variants.{Fields}
+use Rattle.registers.specs.declared.register.Access.the-variants.{To}
+use Rattle.registers.specs.declared.register.Direction.{Direction}
+use Rattle.registers.specs.declared.register.Direction.the-variants.{Reading, Writing}
+use Rattle.registers.specs.declared.register.Row.{Row}
+use Rattle.registers.specs.Registers.{map, holds, lookup}
+
+-- ---- one register an offset
+
+-- no offset is in both rows
+abbrev pub apart : Row → Row → Bool
+apart r s = leb (r .end) (s .from) || leb (s .end) (r .from)
+
+abbrev pub apartFrom : Row → List Row → Bool
+apartFrom r [] = true
+apartFrom r (s ∷ ss) = apart r s && apartFrom r ss
+
+abbrev pub allApart : List Row → Bool
+allApart [] = true
+allApart (r ∷ rs) = apartFrom r rs && allApart rs
+
+-- how many rows hold an offset
+abbrev pub holders : List Row → ℕ → ℕ
+holders [] o = 0
+holders (r ∷ rs) o = boolByte (holds r o) + holders rs o
+
+-- a row that holds an offset has it between its ends
+between : (r : Row) (o : ℕ) → holds r o ≡ true → (r .from ≤ o) × (o < r .end)
+between r o h =
+    let (inside, aligned) = both (within (r .from) (r .end) o) _ h in
+    let (low, high) = both (leb (r .from) o) _ inside in
+    (leb-true _ _ low, ltb-true _ _ high)
+
+not-both : (r s : Row) (o : ℕ) → apart r s ≡ true → holds r o ≡ true → holds s o ≡ false
+not-both r s o e h =
+    refuted _ (λ k.
+    let p = between r o h in
+    let q = between s o k in
+    ⊎-elim (λ l. let x = leb-true (r .end) (s .from) l in omega arith) (λ l. let x = leb-true (s .end) (r .from) l in omega arith)
+    (either (leb (r .end) (s .from)) (leb (s .end) (r .from)) e))
+
+none-else : (r : Row) (rs : List Row) (o : ℕ) → apartFrom r rs ≡ true → holds r o ≡ true → holders rs o ≡ 0
+none-else r [] o e h = refl
+none-else r (s ∷ ss) o e h =
+    let (first, rest) = both (apart r s) (apartFrom r ss) e in
+    let p : holds s o ≡ false = not-both r s o first h in
+    let q : holders ss o ≡ 0 = none-else r ss o rest h in
+    rw (p, q)
+
+one-holder : (rs : List Row) (o : ℕ) → allApart rs ≡ true → holders rs o ≤ 1
+one-holder [] o e = omega arith
+one-holder (r ∷ rs) o e =
+    let (first, rest) = both (apartFrom r rs) (allApart rs) e in
+    go (holds r o) refl first (one-holder rs o rest)
+  where
+    go : (b : Bool) → holds r o ≡ b → apartFrom r rs ≡ true → holders rs o ≤ 1 → boolByte b + holders rs o ≤ 1
+    go true h f l = let q = none-else r rs o f h in omega arith
+    go false h f l = omega arith
+
+-- no offset has two registers
+pub one-register : (o : ℕ) → holders map o ≤ 1
+one-register o = one-holder map o refl
+
+-- ---- a bank's INTIDs, by its offset
+
+-- the seven flag banks follow each other from 0x80 on, 32 words each, a bit for each INTID
+abbrev pub flagBank : ℕ → Bank
+flagBank j = getD (Igroupr ∷ Isenabler ∷ Icenabler ∷ Ispendr ∷ Icpendr ∷ Isactiver ∷ Icactiver ∷ []) j Igroupr
+
+pub flag-intids : (d : Direction) (k : ℕ) → k < 224 → lookup d map (0x80 + 4 * k) Dword ≡ To (Fields (flagBank (k / 32)) (32 * (k % 32)) 32)
+flag-intids Reading = everywhere (λ k. lookup Reading map (0x80 + 4 * k) Dword) (λ k. To (Fields (flagBank (k / 32)) (32 * (k % 32)) 32)) 224 refl
+flag-intids Writing = everywhere (λ k. lookup Writing map (0x80 + 4 * k) Dword) (λ k. To (Fields (flagBank (k / 32)) (32 * (k % 32)) 32)) 224 refl
+
+-- IPRIORITYR has a byte, and IROUTER eight, for each INTID
+pub ipriorityr-intids : (d : Direction) (i : ℕ) → i < 1020 → lookup d map (0x400 + i) Byte ≡ To (Fields Ipriorityr i 1)
+ipriorityr-intids Reading = everywhere (λ i. lookup Reading map (0x400 + i) Byte) (λ i. To (Fields Ipriorityr i 1)) 1020 refl
+ipriorityr-intids Writing = everywhere (λ i. lookup Writing map (0x400 + i) Byte) (λ i. To (Fields Ipriorityr i 1)) 1020 refl
+
+pub irouter-intids : (d : Direction) (i : ℕ) → i < 1020 → lookup d map (0x6000 + 8 * i) Qword ≡ To (Fields Irouter i 1)
+irouter-intids Reading = everywhere (λ i. lookup Reading map (0x6000 + 8 * i) Qword) (λ i. To (Fields Irouter i 1)) 1020 refl
+irouter-intids Writing = everywhere (λ i. lookup Writing map (0x6000 + 8 * i) Qword) (λ i. To (Fields Irouter i 1)) 1020 refl
+
+-- ICFGR has 64 words, two bits for each INTID
+pub icfgr-intids : (d : Direction) (k : ℕ) → k < 64 → lookup d map (0xc00 + 4 * k) Dword ≡ To (Fields Icfgr (16 * k) 16)
+icfgr-intids Reading = everywhere (λ k. lookup Reading map (0xc00 + 4 * k) Dword) (λ k. To (Fields Icfgr (16 * k) 16)) 64 refl
+icfgr-intids Writing = everywhere (λ k. lookup Writing map (0xc00 + 4 * k) Dword) (λ k. To (Fields Icfgr (16 * k) 16)) 64 refl

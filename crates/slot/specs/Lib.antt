@@ -1,0 +1,4 @@
+pub mod Slots
+pub mod BankRule
+pub mod Changes
+pub mod BankRuleLaws
