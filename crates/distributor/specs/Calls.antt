@@ -14,7 +14,7 @@ use Rattle.interrupt.specs.declared.error.Refusal.the-variants.{ShortList}
 use Rattle.interrupt.specs.declared.interrupt.InterruptRecord.{InterruptRecord}
 use Rattle.interrupt.specs.declared.interrupt.Route.{Route}
 use Rattle.interrupt.specs.declared.interrupt.TargetMask.{TargetMask}
-use Rattle.interrupt.specs.declared.operation.Operation.{Operation}
+use Rattle.operation.specs.declared.operation.Operation.{Operation}
 use Rattle.registers.specs.declared.controller.ControllerConfig.{ControllerConfig}
 use Rattle.slot.specs.declared.slot.Slot.{Slot}
 use Rattle.distributor.specs.declared.distributor.DistributorState.{DistributorState}

@@ -1,14 +1,14 @@
 // The host's public calls on one SPI, a line each over `change`.
 use crate::distributor::DistributorState;
 use crate::host::Changed;
-use interrupt::operation::Operation;
 use interrupt::types::GicAffinity;
 use interrupt::types::InterruptState;
 use interrupt::types::Priority;
 use interrupt::types::SpiId;
 use interrupt::types::TriggerMode;
+use operation::operation::Operation;
 use slot::change::Change;
-ghost use Rattle.interrupt.specs.declared.operation.Operation.the-variants.{SetEnabled, SetPending, SetActive, SetState, ClearDeliveryState, MarkInflight, SynchronizeInflight, CancelInflight, FinishInflight, DeactivateInflight, SetPriority, SetTrigger, SetRoute, ClearRoute, SetCpuTargetMask, SetLevel, Pulse, Complete};
+ghost use Rattle.operation.specs.declared.operation.Operation.the-variants.{SetEnabled, SetPending, SetActive, SetState, ClearDeliveryState, MarkInflight, SynchronizeInflight, CancelInflight, FinishInflight, DeactivateInflight, SetPriority, SetTrigger, SetRoute, ClearRoute, SetCpuTargetMask, SetLevel, Pulse, Complete};
 ghost use Rattle.distributor.specs.Calls.{claimSoftware, claimPhysical, release, operate};
 ghost use Rattle.distributor.specs.Host.{Changes};
 

@@ -8,7 +8,7 @@ use lib.Count.{leadingZeros}
 use Rattle.interrupt.specs.Answer.{Answer, done, refused}
 use Rattle.interrupt.specs.Affinity.{affinity}
 use Rattle.interrupt.specs.Life.{fresh, routeIn, deliverableIn, enabledTo, pendingTo, priorityTo, triggerTo, routeTo, unrouted, levelTo, raised, pulsed}
-use Rattle.interrupt.specs.declared.operation.Operation.the-variants.{SetEnabled, SetLevel, Pulse}
+use Rattle.operation.specs.declared.operation.Operation.the-variants.{SetEnabled, SetLevel, Pulse}
 use Rattle.registers.specs.declared.controller.ControllerConfig.{ControllerConfig}
 use Rattle.registers.specs.declared.controller.GicV3SpiOwnership.{GicV3SpiOwnership}
 use Rattle.registers.specs.declared.controller.GicV3SpiOwnership.the-variants.{AllGuestOwned, Explicit}

@@ -8,7 +8,7 @@ use Rattle.interrupt.specs.Answer.{Answer, done, refused}
 use Rattle.interrupt.specs.Affinity.{affinity}
 use Rattle.interrupt.specs.Life.{fresh, routeIn, maskIn, deliverableIn, enabledTo, triggerTo, routeTo, unrouted, priorityTo, maskTo}
 use Rattle.interrupt.specs.declared.types.TriggerMode.the-variants.{Edge}
-use Rattle.interrupt.specs.declared.operation.Operation.the-variants.{SetEnabled, SetTrigger, SetCpuTargetMask}
+use Rattle.operation.specs.declared.operation.Operation.the-variants.{SetEnabled, SetTrigger, SetCpuTargetMask}
 use Rattle.distributor.specs.declared.distributor.DistributorState.{DistributorState}
 use Rattle.registers.specs.declared.register.AccessWidth.the-variants.{Byte, Dword}
 use Rattle.registers.specs.Registers.{decode}

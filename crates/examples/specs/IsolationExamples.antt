@@ -11,7 +11,7 @@ use Rattle.theory.specs.Bools.{both}
 use Rattle.theory.specs.MapLaws.{relates-mapAt}
 use Rattle.interrupt.specs.Answer.{done}
 use Rattle.interrupt.specs.Life.{fresh, deliverableIn, enabledTo, pulsed, routeTo}
-use Rattle.interrupt.specs.declared.operation.Operation.the-variants.{SetEnabled, Pulse}
+use Rattle.operation.specs.declared.operation.Operation.the-variants.{SetEnabled, Pulse}
 use Rattle.registers.specs.declared.controller.ControllerConfig.{ControllerConfig}
 use Rattle.slot.specs.declared.slot.Slot.{Slot}
 use Rattle.distributor.specs.declared.distributor.DistributorState.{DistributorState}

@@ -15,8 +15,8 @@ use Rattle.theory.specs.Runs.{run, answers, Share, Matching}
 use Rattle.theory.specs.Matchings.{swap, reversal}
 use Rattle.interrupt.specs.Answer.{done, refused, within}
 use Rattle.interrupt.specs.Life.{fresh, deliverableIn, enabledTo, routeTo}
-use Rattle.interrupt.specs.declared.operation.Operation.{Operation}
-use Rattle.interrupt.specs.declared.operation.Operation.the-variants.{SetEnabled}
+use Rattle.operation.specs.declared.operation.Operation.{Operation}
+use Rattle.operation.specs.declared.operation.Operation.the-variants.{SetEnabled}
 use Rattle.distributor.specs.declared.distributor.DistributorState.{DistributorState}
 use Rattle.registers.specs.declared.register.AccessWidth.the-variants.{Byte, Dword, Qword}
 use Rattle.registers.specs.Registers.{decode}

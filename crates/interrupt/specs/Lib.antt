@@ -2,8 +2,5 @@ pub mod Answer
 pub mod Affinity
 pub mod State
 pub mod Life
-pub mod Operation
 pub mod AnswerLaws
 pub mod AffinityLaws
-pub mod Laws
-pub mod Tidy

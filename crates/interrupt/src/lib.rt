@@ -1,6 +1,4 @@
 // Interrupt identifiers, and one interrupt's record with all its operations: what the Distributor stands on.
 pub mod error;
 pub mod interrupt;
-pub mod lent;
-pub mod operation;
 pub mod types;

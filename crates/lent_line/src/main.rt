@@ -1,11 +1,14 @@
 // A level SPI that a core is handling: its line falls, and a pulse comes. The pulse came in flight, so it is kept as one more
 // delivery, and the interrupt is pending again once the core has finished.
 use interrupt::interrupt::InterruptRecord;
-use interrupt::lent;
 use interrupt::types::IntId;
 use interrupt::types::IntIdAnswer;
 use interrupt::types::InterruptState;
 use interrupt::types::TriggerMode;
+use lent::lent::pulse_in_place;
+use lent::lent::pulse_lent;
+use lent::lent::set_level_in_place;
+use lent::lent::set_level_lent;
 use libc::STDOUT_FILENO;
 ghost use mathlib.Core.Path.{_≡_};
 ghost use mathlib.Core.Bool.{false};
@@ -16,8 +19,8 @@ fn falls_then_pulse(start: InterruptRecord) -> InterruptRecord
     ensures { λ r. ⌜ r ≡ pulsed (levelTo false start) ⌝ }
 {
     let mut held = start;
-    lent::set_level_in_place(&mut held, false);
-    lent::pulse_in_place(&mut held);
+    set_level_in_place(&mut held, false);
+    pulse_in_place(&mut held);
     held
 }
 
@@ -49,8 +52,8 @@ fn main() {
     };
     let start = handled(intid);
     print_record(b"handled", start);
-    print_record(b"pulse", lent::pulse_lent(start));
-    let fallen = lent::set_level_lent(start, false);
+    print_record(b"pulse", pulse_lent(start));
+    let fallen = set_level_lent(start, false);
     print_record(b"line low", fallen);
     print_record(b"line low, finished", fallen.finish_inflight());
     let both = falls_then_pulse(start);

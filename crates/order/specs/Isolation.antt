@@ -6,7 +6,7 @@ use mathlib.Core.List.{List, [], _∷_}
 use Rattle.theory.specs.MapLaws.{relates-mapAt}
 use Rattle.interrupt.specs.Answer.{done}
 use Rattle.interrupt.specs.Affinity.{fromMpidr}
-use Rattle.interrupt.specs.declared.operation.Operation.the-variants.{SetRoute}
+use Rattle.operation.specs.declared.operation.Operation.the-variants.{SetRoute}
 use Rattle.registers.specs.declared.controller.ControllerConfig.{ControllerConfig}
 use Rattle.slot.specs.declared.slot.Slot.{Slot}
 use Rattle.distributor.specs.declared.distributor.DistributorState.{DistributorState}

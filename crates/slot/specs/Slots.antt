@@ -5,15 +5,15 @@ use mathlib.Core.List.{List, [], _∷_}
 use Rattle.interrupt.specs.Answer.{Answer, done, refused}
 use Rattle.interrupt.specs.Affinity.{fromMpidr}
 use Rattle.interrupt.specs.Life.{fresh, merged}
-use Rattle.interrupt.specs.Operation.{applied}
+use Rattle.operation.specs.Operation.{applied}
 use Rattle.interrupt.specs.declared.types.IntId.{IntId}
 use Rattle.interrupt.specs.declared.types.GicAffinity.{GicAffinity}
 use Rattle.interrupt.specs.declared.types.TriggerMode.{TriggerMode}
 use Rattle.interrupt.specs.declared.types.InterruptState.{InterruptState}
 use Rattle.interrupt.specs.declared.types.InterruptState.the-variants.{Inactive, Pending, Active, ActivePending}
 use Rattle.interrupt.specs.declared.interrupt.InterruptRecord.{InterruptRecord}
-use Rattle.interrupt.specs.declared.operation.Operation.{Operation}
-use Rattle.interrupt.specs.declared.operation.Operation.the-variants.{SetEnabled, SetPending, SetActive, SetState, ClearDeliveryState, MarkInflight, SynchronizeInflight, CancelInflight, FinishInflight, DeactivateInflight, SetPriority, SetTrigger, SetRoute, ClearRoute, SetCpuTargetMask, SetLevel, Pulse, Complete}
+use Rattle.operation.specs.declared.operation.Operation.{Operation}
+use Rattle.operation.specs.declared.operation.Operation.the-variants.{SetEnabled, SetPending, SetActive, SetState, ClearDeliveryState, MarkInflight, SynchronizeInflight, CancelInflight, FinishInflight, DeactivateInflight, SetPriority, SetTrigger, SetRoute, ClearRoute, SetCpuTargetMask, SetLevel, Pulse, Complete}
 use Rattle.registers.specs.declared.controller.ControllerConfig.{ControllerConfig}
 use Rattle.registers.specs.declared.register.Bank.{Bank}
 use Rattle.registers.specs.declared.register.Bank.the-variants.{Igroupr, Isenabler, Icenabler, Ispendr, Icpendr, Isactiver, Icactiver, Ipriorityr, Icfgr, Irouter}

@@ -2,10 +2,11 @@
 use crate::slot::Slot;
 use interrupt::error::Refusal;
 use interrupt::interrupt::InterruptRecord;
-use interrupt::operation::Operation;
 use interrupt::types::GicAffinity;
 use interrupt::types::InterruptState;
 use interrupt::types::TriggerMode;
+use operation::operation::Operation;
+use operation::operation::apply;
 ghost use mathlib.Core.Path.{_≡_};
 ghost use mathlib.Core.Bool.{cond};
 ghost use mathlib.Core.List.{[]};
@@ -90,7 +91,7 @@ impl Slot {
             self
         } else {
             Slot {
-                interrupt: interrupt.apply(Operation::SetRoute(affinity)),
+                interrupt: apply(interrupt, Operation::SetRoute(affinity)),
                 explicitly_owned: true,
                 fixed_route: true,
             }
@@ -102,9 +103,9 @@ impl Slot {
         ensures { λ r. ⌜ r ≡ released self ⌝ }
     {
         let interrupt = self.interrupt;
-        let unrouted = interrupt.apply(Operation::ClearRoute);
+        let unrouted = apply(interrupt, Operation::ClearRoute);
         Slot {
-            interrupt: unrouted.apply(Operation::SetTrigger(TriggerMode::Level)),
+            interrupt: apply(unrouted, Operation::SetTrigger(TriggerMode::Level)),
             explicitly_owned: false,
             fixed_route: false,
         }

@@ -1,11 +1,12 @@
 // One SPI: what a bank shows of it, and what a written field does to it. No table is in here.
 use interrupt::interrupt::InterruptRecord;
-use interrupt::operation::Operation;
 use interrupt::types::GicAffinity;
 use interrupt::types::IntId;
 use interrupt::types::Priority;
 use interrupt::types::SpiId;
 use interrupt::types::TriggerMode;
+use operation::operation::Operation;
+use operation::operation::apply;
 use registers::bank::trigger_in;
 use registers::register::Bank;
 ghost use mathlib.Core.Path.{_≡_};
@@ -46,7 +47,7 @@ impl Slot {
     {
         let interrupt = self.interrupt;
         Slot {
-            interrupt: interrupt.apply(operation),
+            interrupt: apply(interrupt, operation),
             explicitly_owned: self.explicitly_owned,
             fixed_route: self.fixed_route,
         }

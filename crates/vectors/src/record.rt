@@ -12,10 +12,10 @@ use crate::slot;
 use interrupt::interrupt::InterruptRecord;
 use interrupt::interrupt::Route;
 use interrupt::interrupt::TargetMask;
-use interrupt::operation::Operation;
 use interrupt::types::GicAffinity;
 use interrupt::types::IntId;
 use interrupt::types::Priority;
+use operation::operation::Operation;
 
 // The value that the call answers, and the slot that it leaves.
 pub struct Done {

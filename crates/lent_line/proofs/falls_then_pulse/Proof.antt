@@ -29,14 +29,14 @@ use Rattle.interrupt.specs.declared.interrupt.InterruptRecord.{InterruptRecord}
 use Rattle.interrupt.specs.Life.{levelTo, pulsed}
 use Rattle.interrupt.proofs.interrupt.InterruptRecord as T
 use Rattle.interrupt.proofs.interrupt.InterruptRecord.Laws as T′
-use Rattle.interrupt.proofs.Lending.{typed, lends, on-return, meets-by}
-use Rattle.interrupt.proofs.LineCalls.{Level, Pulse, to-level, to-pulse, level-changes, pulse-changes}
-use Rattle.interrupt.proofs.lent.set_level_in_place.Symbol as level-def
-use Rattle.interrupt.proofs.lent.set_level_in_place.Symbol.{name as #set-level-in-place}
-use Rattle.interrupt.proofs.lent.set_level_in_place.Met as level-thm
-use Rattle.interrupt.proofs.lent.pulse_in_place.Symbol as pulse-def
-use Rattle.interrupt.proofs.lent.pulse_in_place.Symbol.{name as #pulse-in-place}
-use Rattle.interrupt.proofs.lent.pulse_in_place.Met as pulse-thm
+use Rattle.lent.proofs.Lending.{typed, lends, on-return, meets-by}
+use Rattle.lent.proofs.LineCalls.{Level, Pulse, to-level, to-pulse, level-changes, pulse-changes}
+use Rattle.lent.proofs.lent.set_level_in_place.Symbol as level-def
+use Rattle.lent.proofs.lent.set_level_in_place.Symbol.{name as #set-level-in-place}
+use Rattle.lent.proofs.lent.set_level_in_place.Met as level-thm
+use Rattle.lent.proofs.lent.pulse_in_place.Symbol as pulse-def
+use Rattle.lent.proofs.lent.pulse_in_place.Symbol.{name as #pulse-in-place}
+use Rattle.lent.proofs.lent.pulse_in_place.Met as pulse-thm
 use Rattle.lent_line.proofs.falls_then_pulse.Key.{name as #falls-then-pulse}
 use Rattle.lent_line.proofs.falls_then_pulse as this
 use Rattle.lent_line.proofs.falls_then_pulse.Statement as stated
@@ -96,5 +96,5 @@ falls-then-pulse-spec 𝓤 H 𝓜 𝓖 𝓡 =
     entered 𝓤 H (tripleOf 𝓤 H (𝓖 .A) this.signature (this.spec 𝓤 H (𝓖 .A) (𝓜 .mem) (𝓡 .run)))
     (tables 𝓤 H 𝓜 𝓡 code.env .C) (tables 𝓤 H 𝓜 𝓡 code.env .Λ) #falls-then-pulse code.function (code.unfolded 𝓤 H 𝓜 𝓡)
     (meets 𝓤 H (𝓖 .A) (givenOf 𝓤 H 𝓜 𝓖) (𝓜 .mem) (𝓡 .run) (tablesOf 𝓤 H 𝓜 (tables 𝓤 H 𝓜 𝓡 code.env))
-    (cited 𝓤 H (Level 𝓤 H (𝓖 .A) (𝓜 .mem) (𝓡 .run)) 𝓜 𝓡 code.env #set-level-in-place level-def.routine code.calls-interrupt·lent·set-level-in-place (level-thm.met 𝓤 H 𝓜 𝓖 𝓡))
-    (cited 𝓤 H (Pulse 𝓤 H (𝓖 .A) (𝓜 .mem) (𝓡 .run)) 𝓜 𝓡 code.env #pulse-in-place pulse-def.routine code.calls-interrupt·lent·pulse-in-place (pulse-thm.met 𝓤 H 𝓜 𝓖 𝓡)))
+    (cited 𝓤 H (Level 𝓤 H (𝓖 .A) (𝓜 .mem) (𝓡 .run)) 𝓜 𝓡 code.env #set-level-in-place level-def.routine code.calls-lent·lent·set-level-in-place (level-thm.met 𝓤 H 𝓜 𝓖 𝓡))
+    (cited 𝓤 H (Pulse 𝓤 H (𝓖 .A) (𝓜 .mem) (𝓡 .run)) 𝓜 𝓡 code.env #pulse-in-place pulse-def.routine code.calls-lent·lent·pulse-in-place (pulse-thm.met 𝓤 H 𝓜 𝓖 𝓡)))

@@ -4,7 +4,7 @@ use mathlib.Core.Path.{ap, _∙_}
 use mathlib.Core.Bool.{cond}
 use Rattle.interrupt.specs.declared.types.GicAffinity.{GicAffinity}
 use Rattle.interrupt.specs.declared.types.TriggerMode.{TriggerMode}
-use Rattle.interrupt.specs.declared.operation.Operation.the-variants.{SetPriority, SetTrigger, SetRoute}
+use Rattle.operation.specs.declared.operation.Operation.the-variants.{SetPriority, SetTrigger, SetRoute}
 use Rattle.slot.specs.Slots.{through}
 use borrow.Author.Needs.{needs}
 use Rattle.slot.proofs.slot.Slot.written.Statement.{statement}

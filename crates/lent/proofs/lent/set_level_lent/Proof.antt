@@ -1,4 +1,4 @@
--- `interrupt::lent::set_level_lent` meets its contract: a walk of its MIR by hand, over `Lending`'s `lends` with `set_level_in_place`. No field of the record is named.
+-- `lent::set_level_lent` meets its contract: a walk of its MIR by hand, over `Lending`'s `lends` with `set_level_in_place`. No field of the record is named.
 -- Assumes nothing.
 use mathlib.Core.Path.{refl}
 use mathlib.Core.Bool.{Bool}
@@ -28,19 +28,19 @@ use denote.Triple.Entry.{onEntry}
 use denote.Triple.Spec.{Meets, tripleOf}
 use denote.Triple.Table.{entered, cited}
 use denote.Triple.Walked.{says, Stays, stay-dropped, goes-dropped, walkOf, ends-at}
 use Rattle.interrupt.specs.declared.interrupt.InterruptRecord.{InterruptRecord}
 use Rattle.interrupt.specs.Life.{levelTo}
 use Rattle.interrupt.proofs.interrupt.InterruptRecord as T
 use Rattle.interrupt.proofs.interrupt.InterruptRecord.Laws as T′
-use Rattle.interrupt.proofs.Lending.{typed, lends, on-return, meets-by}
-use Rattle.interrupt.proofs.LineCalls.{Level, to-level, level-changes}
-use Rattle.interrupt.proofs.lent.set_level_in_place.Symbol as level-def
-use Rattle.interrupt.proofs.lent.set_level_in_place.Symbol.{name as #set-level-in-place}
-use Rattle.interrupt.proofs.lent.set_level_in_place.Met as level-thm
-use Rattle.interrupt.proofs.lent.set_level_lent.Key.{name as #set-level-lent}
-use Rattle.interrupt.proofs.lent.set_level_lent as this
-use Rattle.interrupt.proofs.lent.set_level_lent.Statement as stated
-use Rattle.interrupt.proofs.lent.set_level_lent.Code as code
+use Rattle.lent.proofs.Lending.{typed, lends, on-return, meets-by}
+use Rattle.lent.proofs.LineCalls.{Level, to-level, level-changes}
+use Rattle.lent.proofs.lent.set_level_in_place.Symbol as level-def
+use Rattle.lent.proofs.lent.set_level_in_place.Symbol.{name as #set-level-in-place}
+use Rattle.lent.proofs.lent.set_level_in_place.Met as level-thm
+use Rattle.lent.proofs.lent.set_level_lent.Key.{name as #set-level-lent}
+use Rattle.lent.proofs.lent.set_level_lent as this
+use Rattle.lent.proofs.lent.set_level_lent.Statement as stated
+use Rattle.lent.proofs.lent.set_level_lent.Code as code
 
 abbrev stayed : Stays (this.ended .signature .params) (this.ended .kept)
 stayed = (stay-dropped (plain (λ _. T.the-row)) yes, (stay-dropped (plain (λ _. bool)) yes, tt))
@@ -86,4 +86,4 @@ set-level-lent-spec 𝓤 H 𝓜 𝓖 𝓡 =
     entered 𝓤 H (tripleOf 𝓤 H (𝓖 .A) this.signature (this.spec 𝓤 H (𝓖 .A) (𝓜 .mem) (𝓡 .run)))
     (tables 𝓤 H 𝓜 𝓡 code.env .C) (tables 𝓤 H 𝓜 𝓡 code.env .Λ) #set-level-lent code.function (code.unfolded 𝓤 H 𝓜 𝓡)
     (meets 𝓤 H (𝓖 .A) (givenOf 𝓤 H 𝓜 𝓖) (𝓜 .mem) (𝓡 .run) (tablesOf 𝓤 H 𝓜 (tables 𝓤 H 𝓜 𝓡 code.env))
-    (cited 𝓤 H (Level 𝓤 H (𝓖 .A) (𝓜 .mem) (𝓡 .run)) 𝓜 𝓡 code.env #set-level-in-place level-def.routine code.calls-interrupt·lent·set-level-in-place (level-thm.met 𝓤 H 𝓜 𝓖 𝓡)))
+    (cited 𝓤 H (Level 𝓤 H (𝓖 .A) (𝓜 .mem) (𝓡 .run)) 𝓜 𝓡 code.env #set-level-in-place level-def.routine code.calls-lent·lent·set-level-in-place (level-thm.met 𝓤 H 𝓜 𝓖 𝓡)))

@@ -1,4 +1,4 @@
--- `interrupt::lent::set_level_in_place` meets its contract: a walk of its MIR by hand, over `Lending`'s `changes` with the method `set_level`. No field of the record is named.
+-- `lent::set_level_in_place` meets its contract: a walk of its MIR by hand, over `Lending`'s `changes` with the method `set_level`. No field of the record is named.
 -- Assumes nothing.
 use mathlib.Core.Path.{refl}
 use Prim.Native.Nat.{ℕ}
@@ -30,19 +30,19 @@ use denote.Triple.Entry.{onEntry}
 use denote.Triple.Spec.{Meets, tripleOf}
 use denote.Triple.Table.{entered, cited}
 use denote.Triple.Walked.{says, Stays, stay-ref, stay-dropped, goes-ref, goes-dropped, walkOf, ends-at}
 use Rattle.interrupt.specs.declared.interrupt.InterruptRecord.{InterruptRecord}
 use Rattle.interrupt.specs.Life.{levelTo}
 use Rattle.interrupt.proofs.interrupt.InterruptRecord as T
 use Rattle.interrupt.proofs.interrupt.InterruptRecord.Laws as T′
-use Rattle.interrupt.proofs.Lending.{to, lent, Flag, flag, Makes, makes, changes, on-entry, on-exit, meets-by}
+use Rattle.lent.proofs.Lending.{to, lent, Flag, flag, Makes, makes, changes, on-entry, on-exit, meets-by}
 use Rattle.interrupt.proofs.interrupt.InterruptRecord.set_level as method
 use Rattle.interrupt.proofs.interrupt.InterruptRecord.set_level.Symbol as method-def
 use Rattle.interrupt.proofs.interrupt.InterruptRecord.set_level.Symbol.{name as #set-level}
 use Rattle.interrupt.proofs.interrupt.InterruptRecord.set_level.Met as method-thm
-use Rattle.interrupt.proofs.lent.set_level_in_place.Key.{name as #set-level-in-place}
-use Rattle.interrupt.proofs.lent.set_level_in_place as this
-use Rattle.interrupt.proofs.lent.set_level_in_place.Statement as stated
-use Rattle.interrupt.proofs.lent.set_level_in_place.Code as code
+use Rattle.lent.proofs.lent.set_level_in_place.Key.{name as #set-level-in-place}
+use Rattle.lent.proofs.lent.set_level_in_place as this
+use Rattle.lent.proofs.lent.set_level_in_place.Statement as stated
+use Rattle.lent.proofs.lent.set_level_in_place.Code as code
 
 abbrev stayed : Stays (this.ended .signature .params) (this.ended .kept)
 stayed = (stay-ref (0 ∷ []) tt (plain (λ _. T.the-row)), (stay-dropped (plain (λ _. bool)) yes, tt))

@@ -2,9 +2,9 @@
 // method on the copy, and store what it hands back: at exit the reference holds what the method makes of the record that was
 // there at entry. Their proofs follow the code by hand. `set_level_lent` and `pulse_lent` take the record by value, lend it
 // and hand it back, so that whoever calls those needs no such proof.
-use crate::interrupt::InterruptRecord;
+use interrupt::interrupt::InterruptRecord;
 ghost use mathlib.Core.Path.{_≡_};
 ghost use Rattle.interrupt.specs.Life.{levelTo, pulsed};
 
 pub fn set_level_in_place(r: &mut InterruptRecord, asserted: bool)
     ensures { λ _. ⌜ now (r .exit) ≡ levelTo asserted (now (r .entry)) ⌝ }

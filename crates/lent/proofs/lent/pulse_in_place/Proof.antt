@@ -1,4 +1,4 @@
--- `interrupt::lent::pulse_in_place` meets its contract: a walk of its MIR by hand, over `Lending`'s `changes` with the method `pulse`. No field of the record is named.
+-- `lent::pulse_in_place` meets its contract: a walk of its MIR by hand, over `Lending`'s `changes` with the method `pulse`. No field of the record is named.
 -- Assumes nothing.
 use mathlib.Core.Path.{refl}
 use Prim.Native.Nat.{ℕ}
@@ -26,19 +26,19 @@ use denote.Triple.Entry.{onEntry}
 use denote.Triple.Spec.{Meets, tripleOf}
 use denote.Triple.Table.{entered, cited}
 use denote.Triple.Walked.{says, Stays, stay-ref, goes-ref, walkOf, ends-at}
 use Rattle.interrupt.specs.declared.interrupt.InterruptRecord.{InterruptRecord}
 use Rattle.interrupt.specs.Life.{pulsed}
 use Rattle.interrupt.proofs.interrupt.InterruptRecord as T
 use Rattle.interrupt.proofs.interrupt.InterruptRecord.Laws as T′
-use Rattle.interrupt.proofs.Lending.{to, lent, Makes, makes, changes, on-entry, on-exit, meets-by}
+use Rattle.lent.proofs.Lending.{to, lent, Makes, makes, changes, on-entry, on-exit, meets-by}
 use Rattle.interrupt.proofs.interrupt.InterruptRecord.pulse as method
 use Rattle.interrupt.proofs.interrupt.InterruptRecord.pulse.Symbol as method-def
 use Rattle.interrupt.proofs.interrupt.InterruptRecord.pulse.Symbol.{name as #pulse}
 use Rattle.interrupt.proofs.interrupt.InterruptRecord.pulse.Met as method-thm
-use Rattle.interrupt.proofs.lent.pulse_in_place.Key.{name as #pulse-in-place}
-use Rattle.interrupt.proofs.lent.pulse_in_place as this
-use Rattle.interrupt.proofs.lent.pulse_in_place.Statement as stated
-use Rattle.interrupt.proofs.lent.pulse_in_place.Code as code
+use Rattle.lent.proofs.lent.pulse_in_place.Key.{name as #pulse-in-place}
+use Rattle.lent.proofs.lent.pulse_in_place as this
+use Rattle.lent.proofs.lent.pulse_in_place.Statement as stated
+use Rattle.lent.proofs.lent.pulse_in_place.Code as code
 
 abbrev stayed : Stays (this.ended .signature .params) (this.ended .kept)
 stayed = (stay-ref (0 ∷ []) tt (plain (λ _. T.the-row)), tt)

@@ -1,9 +1,9 @@
--- `InterruptRecord::apply` meets its contract: an arm for each operation, which does what that operation ensures.
+-- `apply` meets its contract: an arm for each operation, which does what that operation ensures.
 use mathlib.Core.Path.{ap}
 use borrow.Author.Needs.{needs}
 use Rattle.interrupt.specs.declared.interrupt.Synchronized.{Synchronized}
-use Rattle.interrupt.proofs.interrupt.InterruptRecord.apply.Statement.{statement}
-use Rattle.interrupt.proofs.interrupt.InterruptRecord.apply.Tie as tie
+use Rattle.operation.proofs.operation.apply.Statement.{statement}
+use Rattle.operation.proofs.operation.apply.Tie as tie
 
 enum-known-operation : tie.Need-enum-known-operation
 enum-known-operation c = search needs

@@ -16,13 +16,13 @@ use contract.Monad.{Fun}
 use types.Kit.{Given}
 use denote.Triple.Statement.{Contract}
 use denote.Triple.Spec.{tripleOf}
 use Rattle.interrupt.specs.declared.interrupt.InterruptRecord.{InterruptRecord}
 use Rattle.interrupt.specs.Life.{levelTo, pulsed}
 use Rattle.interrupt.proofs.interrupt.InterruptRecord as T
 use Rattle.interrupt.proofs.interrupt.InterruptRecord.Laws as T′
-use Rattle.interrupt.proofs.Lending.{to, Flag, flag, Changes, leaves-at}
-use Rattle.interrupt.proofs.lent.set_level_in_place as level
-use Rattle.interrupt.proofs.lent.pulse_in_place as pulse
+use Rattle.lent.proofs.Lending.{to, Flag, flag, Changes, leaves-at}
+use Rattle.lent.proofs.lent.set_level_in_place as level
+use Rattle.lent.proofs.lent.pulse_in_place as pulse
 
 module _ {M : Type 1} (𝓤 : URA M) (H : Heap 𝓤) (A : Atoms 𝓤) (at-mem : Memory → SProp 𝓤) (run : Routine → Fun 𝓤) where
   abbrev pub Level : Contract 𝓤

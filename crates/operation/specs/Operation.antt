@@ -1,9 +1,9 @@
 -- What each named operation makes of a record.
 use mathlib.Core.Bool.{false}
 use Rattle.interrupt.specs.declared.interrupt.InterruptRecord.{InterruptRecord}
-use Rattle.interrupt.specs.declared.operation.Operation.{Operation}
-use Rattle.interrupt.specs.declared.operation.Operation.the-variants.{SetEnabled, SetPending, SetActive, SetState, ClearDeliveryState, MarkInflight, SynchronizeInflight, CancelInflight, FinishInflight, DeactivateInflight, SetPriority, SetTrigger, SetRoute, ClearRoute, SetCpuTargetMask, SetLevel, Pulse, Complete}
+use Rattle.operation.specs.declared.operation.Operation.{Operation}
+use Rattle.operation.specs.declared.operation.Operation.the-variants.{SetEnabled, SetPending, SetActive, SetState, ClearDeliveryState, MarkInflight, SynchronizeInflight, CancelInflight, FinishInflight, DeactivateInflight, SetPriority, SetTrigger, SetRoute, ClearRoute, SetCpuTargetMask, SetLevel, Pulse, Complete}
 use Rattle.interrupt.specs.Life.{enabledTo, pendingTo, activeTo, stateTo, cleared, taken, synchronized, cancelled, deactivated, priorityTo, triggerTo, routeTo, unrouted, maskTo, levelTo, pulsed, completed}
 
 abbrev pub applied : Operation → InterruptRecord → InterruptRecord
 applied (SetEnabled on) r = enabledTo on r

@@ -1,0 +1,2 @@
+// The two line calls on one lent record.
+pub mod lent;

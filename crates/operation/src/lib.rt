@@ -1,0 +1,2 @@
+// The operations that change a record, as values.
+pub mod operation;
