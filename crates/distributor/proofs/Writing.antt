@@ -1,6 +1,6 @@
 -- The loop that writes a bank's fields, from the lowest up: one field more, to the slots and to the list.
 use Prim.Native.Nat.{ℕ, _+_, _-_, _/_, _%_, _^_, _<_}
-use mathlib.Core.Path.{_≡_, refl, ap, _∙_}
+use mathlib.Core.Path.{_≡_, refl, sym, ap, _∙_}
 use mathlib.Core.Logic.{_≢_, by-cases}
 use mathlib.Core.Bool.{Bool, true, false, not, _&&_, _||_, cond}
 use mathlib.Core.List.{List}
@@ -19,7 +19,7 @@ use Rattle.registers.specs.declared.controller.ControllerConfig.{ControllerConf
 use Rattle.registers.specs.declared.register.Bank.{Bank}
 use Rattle.registers.specs.Registers.{bitsOf}
 use Rattle.registers.specs.Banks.{explicit, inTable, acts, lists, field}
-use Rattle.slot.specs.Slots.{owned, written}
+use Rattle.slot.specs.Slots.{owned, written, touches, turned, listed}
 use Rattle.slot.specs.BankRule.{slotOf, noSlot, reaches, bankSlot, candidate}
 use Rattle.distributor.specs.declared.distributor.DistributorState.{DistributorState}
 use Rattle.distributor.specs.Calls.{size}
@@ -141,34 +141,32 @@ module _ (c : ControllerConfig) (n : ℕ) (b : Bank) (value lo : ℕ) (l : List 
             rw (X, R) (dead tells (lists b) (deliverableIn (new .interrupt)) _ _)
 
 -- a turn of the code, in its own terms
-module _ (d₀ : DistributorState) (b : Bank) (lo m value : ℕ) (tells : Bool) (j p f n : ℕ) (inside e act own list : Bool) (new : Slot) (d : DistributorState) (v : ℕ)
+module _ (d₀ : DistributorState) (b : Bank) (lo m value : ℕ) (tells : Bool) (j p f : ℕ) (inside e : Bool) (new : Slot) (on : Bool) (d : DistributorState) (v : ℕ)
     (hd : d ≡ withSlots d₀ (swept (d₀ .config) (size d₀) b value lo (d₀ .slots) j))
-    (hi : inside ≡ inTable n (lo + j)) (hn : n ≡ size d₀) (he : e ≡ explicit (d₀ .config .«spi_ownership»))
-    (hp : p ≡ cond (inTable n (lo + j)) (lo + j - 32) 0) (hf : f ≡ v % 2 ^ bitsOf b) (hv : v ≡ value / (2 ^ bitsOf b) ^ j)
-    (ha : act ≡ acts b f) (ho : own ≡ (not e || getD (d .slots) p noSlot .«explicitly_owned»)) (hl : list ≡ lists b)
-    (hw : new ≡ cond (inside && act && own) (written b f (getD (d .slots) p noSlot)) (getD (d .slots) p noSlot)) where
+    (hi : inside ≡ inTable (size d₀) (lo + j)) (he : e ≡ explicit (d₀ .config .«spi_ownership»))
+    (hp : p ≡ cond (inTable (size d₀) (lo + j)) (lo + j - 32) 0) (hf : f ≡ v % 2 ^ bitsOf b) (hv : v ≡ value / (2 ^ bitsOf b) ^ j)
+    (hw : new ≡ turned inside e b f (getD (d .slots) p noSlot)) (ho : on ≡ listed inside e b f (getD (d .slots) p noSlot)) where
   slots-are : d .slots ≡ swept (d₀ .config) (size d₀) b value lo (d₀ .slots) j
   slots-are = ap (λ (x : DistributorState). x .slots) hd
-
-  here : inside ≡ inTable (size d₀) (lo + j)
-  here = hi ∙ (rw hn)
-
-  there : p ≡ cond (inTable (size d₀) (lo + j)) (lo + j - 32) 0
-  there = hp ∙ (rw hn)
 
   digit : f ≡ field b value lo (lo + j)
   digit = hf ∙ field-at b value v lo j hv
 
-  touching : (inside && act && own) ≡ (inside && acts b f && (not e || getD (swept (d₀ .config) (size d₀) b value lo (d₀ .slots) j) p noSlot .«explicitly_owned»))
-  touching = rw (ha, ho, slots-are)
-
-  newer : new ≡ cond (inside && act && own) (written b f (getD (swept (d₀ .config) (size d₀) b value lo (d₀ .slots) j) p noSlot)) (getD (swept (d₀ .config) (size d₀) b value lo (d₀ .slots) j) p noSlot)
-  newer = hw ∙ ap (λ (l : List Slot). cond (inside && act && own) (written b f (getD l p noSlot)) (getD l p noSlot)) slots-are
+  newer : new ≡ turned inside e b f (getD (swept (d₀ .config) (size d₀) b value lo (d₀ .slots) j) p noSlot)
+  newer = hw ∙ ap (λ (l : List Slot). turned inside e b f (getD l p noSlot)) slots-are
 
   pub state-more : withSlots d (set (d .slots) p new) ≡ withSlots d₀ (swept (d₀ .config) (size d₀) b value lo (d₀ .slots) (j + 1))
   state-more =
       ap (λ (x : DistributorState). withSlots x (set (x .slots) p new)) hd
-      ∙ ap (withSlots d₀) (swept-more (d₀ .config) (size d₀) b value lo (d₀ .slots) j p f inside e (inside && act && own) new here he there digit touching newer)
+      ∙ ap (withSlots d₀) (swept-more (d₀ .config) (size d₀) b value lo (d₀ .slots) j p f inside e _ new hi he hp digit refl newer)
 
-  pub on-more : j < m → (tells && list && (inside && act && own) && deliverableIn (new .interrupt)) ≡ (tells && candidate (d₀ .config) (size d₀) b value lo m (d₀ .slots) (lo + j))
-  on-more h = rw hl (noted (d₀ .config) (size d₀) b value lo (d₀ .slots) j p f inside e (inside && act && own) new here he there digit touching newer tells m h)
+  apart : (t u w x : Bool) → (t && (u && w && x)) ≡ (t && u && w && x)
+  apart true u w x = refl
+  apart false u w x = refl
+
+  pub on-more : j < m → (tells && on) ≡ (tells && candidate (d₀ .config) (size d₀) b value lo m (d₀ .slots) (lo + j))
+  on-more h =
+      ap (λ (x : Bool). tells && x) (ho ∙ ap (λ (l : List Slot). listed inside e b f (getD l p noSlot)) slots-are)
+      ∙ apart tells (lists b) (touches inside e b f (getD (swept (d₀ .config) (size d₀) b value lo (d₀ .slots) j) p noSlot)) _
+      ∙ ap (λ (s : Slot). tells && lists b && touches inside e b f (getD (swept (d₀ .config) (size d₀) b value lo (d₀ .slots) j) p noSlot) && deliverableIn (s .interrupt)) (sym newer)
+      ∙ noted (d₀ .config) (size d₀) b value lo (d₀ .slots) j p f inside e _ new hi he hp digit refl newer tells m h

@@ -94,20 +94,18 @@ pub(crate) fn write_fields(
 {
     let spis = d.spi_count;
     let explicit = d.is_explicit();
-    let lists = tells & bank.lists();
     let mut v = value;
     let mut count: usize = 0;
     let mut j: u32 = 0;
     while j < m {
         let i = lo + j;
-        let f = bank.lowest(v);
+        let inside = in_table(spis, i);
         let p = Place::or_first(spis, i).index();
         let old = d.slots[p];
-        let touched = in_table(spis, i) & bank.acts(f) & old.owned(explicit);
-        let new = old.touched(touched, bank, f);
+        let turn = old.turn(inside, explicit, bank, bank.lowest(v));
+        let new = turn.slot;
         d.slots[p] = new;
-        let interrupt = new.interrupt;
-        count = note(list, count, i, lists & touched & interrupt.deliverable());
+        count = note(list, count, i, tells & turn.listed);
         v = bank.above(v);
         j += 1;
     }

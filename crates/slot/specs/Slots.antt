@@ -4,7 +4,7 @@ use mathlib.Core.Bool.{Bool, true, false, not, _&&_, _||_, cond}
 use mathlib.Core.List.{List, [], _∷_}
 use Rattle.interrupt.specs.Answer.{Answer, done, refused}
 use Rattle.interrupt.specs.Affinity.{fromMpidr}
-use Rattle.interrupt.specs.Life.{fresh, merged}
+use Rattle.interrupt.specs.Life.{fresh, merged, deliverableIn}
 use Rattle.operation.specs.Operation.{applied}
 use Rattle.interrupt.specs.declared.types.IntId.{IntId}
 use Rattle.interrupt.specs.declared.types.GicAffinity.{GicAffinity}
@@ -17,7 +17,7 @@ use Rattle.operation.specs.declared.operation.Operation.the-variants.{SetEnable
 use Rattle.registers.specs.declared.controller.ControllerConfig.{ControllerConfig}
 use Rattle.registers.specs.declared.register.Bank.{Bank}
 use Rattle.registers.specs.declared.register.Bank.the-variants.{Igroupr, Isenabler, Icenabler, Ispendr, Icpendr, Isactiver, Icactiver, Ipriorityr, Icfgr, Irouter}
-use Rattle.registers.specs.Banks.{explicit, triggerIn}
+use Rattle.registers.specs.Banks.{explicit, triggerIn, acts, lists}
 use Rattle.slot.specs.declared.slot.Slot.{Slot}
 
 -- a new SPI is level-sensitive, unclaimed, and its route is not fixed
@@ -49,6 +49,17 @@ written Icactiver f s = through Complete s
 written Ipriorityr f s = through (SetPriority (record { 0 = f % 256 })) s
 written Icfgr f s = through (SetTrigger (triggerIn f)) s
 written Irouter f s = cond (s .«fixed_route») s (through (SetRoute (fromMpidr f)) s)
+
+-- a field written to an SPI that is in the table, or is not: it touches an owned one of the table, if it acts
+abbrev pub touches : Bool → Bool → Bank → ℕ → Slot → Bool
+touches inside explicit b f s = inside && acts b f && (not explicit || s .«explicitly_owned»)
+
+abbrev pub turned : Bool → Bool → Bank → ℕ → Slot → Slot
+turned inside explicit b f s = cond (touches inside explicit b f s) (written b f s) s
+
+-- listed is what was touched and is deliverable then
+abbrev pub listed : Bool → Bool → Bank → ℕ → Slot → Bool
+listed inside explicit b f s = lists b && touches inside explicit b f s && deliverableIn (turned inside explicit b f s .interrupt)
 
 -- ---- the host
 

@@ -14,13 +14,19 @@ ghost use mathlib.Core.Bool.{cond, not, _&&_, _||_};
 ghost use Prim.Native.Nat.{_^_, _<_};
 ghost use Rattle.registers.specs.Registers.{bitsOf};
 ghost use Rattle.registers.specs.Banks.{shown};
-ghost use Rattle.slot.specs.Slots.{freshSpi, through, written};
+ghost use Rattle.slot.specs.Slots.{freshSpi, through, written, turned, listed};
 
 // One SPI: its record, whether the host has claimed it for the guest, and whether its route is fixed.
 pub struct Slot {
     pub interrupt: InterruptRecord,
     pub explicitly_owned: bool,
     pub fixed_route: bool,
+}
+
+// What a written field leaves of an SPI, and whether the SPI is listed.
+pub struct Turn {
+    pub slot: Slot,
+    pub listed: bool,
 }
 
 impl Slot {
@@ -76,7 +82,7 @@ impl Slot {
     }
 
     // What a field makes of an SPI that it touches.
-    pub fn touched(self, touched: bool, bank: Bank, field: u64) -> Self
+    fn touched(self, touched: bool, bank: Bank, field: u64) -> Self
         ensures { λ r. ⌜ r ≡ cond touched (written bank field self) self ⌝ }
     {
         if touched {
@@ -87,7 +93,7 @@ impl Slot {
     }
 
     // What a field that acts makes of an owned SPI.
-    pub fn written(self, bank: Bank, field: u64) -> Self
+    fn written(self, bank: Bank, field: u64) -> Self
         ensures { λ r. ⌜ r ≡ written bank field self ⌝ }
     {
         match bank {
@@ -103,6 +109,19 @@ impl Slot {
             ))),
             Bank::Icfgr => self.through(Operation::SetTrigger(trigger_in(field))),
             Bank::Irouter => self.routed(GicAffinity::from_mpidr(field)),
+        }
+    }
+
+    // A field is written to an SPI: it touches an owned one of the table, if it acts.
+    pub fn turn(self, inside: bool, explicit: bool, bank: Bank, field: u64) -> Turn
+        ensures { λ r. ⌜ (r .slot ≡ turned inside explicit bank field self) × (r .listed ≡ listed inside explicit bank field self) ⌝ }
+    {
+        let touched = inside & bank.acts(field) & self.owned(explicit);
+        let new = self.touched(touched, bank, field);
+        let interrupt = new.interrupt;
+        Turn {
+            slot: new,
+            listed: bank.lists() & touched & interrupt.deliverable(),
         }
     }
 }
