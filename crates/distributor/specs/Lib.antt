@@ -6,3 +6,4 @@ pub mod Create
 pub mod Questions
 pub mod ReadLaws
 pub mod Replies
+pub mod ToldLaws
