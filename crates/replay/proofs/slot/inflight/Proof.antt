@@ -5,8 +5,8 @@ use borrow.Author.Needs.{needs}
 use Rattle.interrupt.specs.declared.interrupt.InterruptRecord.{InterruptRecord}
 use Rattle.interrupt.specs.declared.types.InterruptState.the-variants.{Inactive}
 use Rattle.interrupt.specs.Life.{held, pendingTo, stateTo}
-use Rattle.vectors.proofs.slot.inflight.Statement.{statement}
-use Rattle.vectors.proofs.slot.inflight.Tie as tie
+use Rattle.replay.proofs.slot.inflight.Statement.{statement}
+use Rattle.replay.proofs.slot.inflight.Tie as tie
 
 seen : (r : InterruptRecord) → held (pendingTo false (stateTo Inactive r)) ≡ r .inflight
 unfolding held pendingTo stateTo

@@ -4,8 +4,8 @@ use borrow.Author.Needs.{needs}
 use Rattle.interrupt.specs.declared.interrupt.InterruptRecord.{InterruptRecord}
 use Rattle.interrupt.specs.declared.types.InterruptState.the-variants.{Inactive}
 use Rattle.interrupt.specs.Life.{cancelled, landed, stateTo}
-use Rattle.vectors.proofs.slot.redelivery.Statement.{statement}
-use Rattle.vectors.proofs.slot.redelivery.Tie as tie
+use Rattle.replay.proofs.slot.redelivery.Statement.{statement}
+use Rattle.replay.proofs.slot.redelivery.Tie as tie
 
 seen : (r : InterruptRecord) → cancelled (stateTo Inactive r) .pending ≡ r .«redelivery_pending»
 unfolding cancelled landed stateTo

@@ -1,12 +1,14 @@
-// The calls on identifiers, by number, and what an answer is.
-use crate::line::Seen;
+// The calls on identifiers and affinities, by number.
+use crate::answer::Answer;
+use crate::answer::done;
+use crate::answer::refused;
+use crate::call::Call;
 use crate::number::low_byte;
 use crate::number::low_word;
 use crate::number::trigger;
 use crate::number::wide;
 use crate::number::wide_word;
 use crate::slot;
-use interrupt::error::Refusal;
 use interrupt::interrupt::InterruptRecord;
 use interrupt::types::GicAffinity;
 use interrupt::types::IntId;
@@ -20,60 +22,9 @@ use interrupt::types::SgiIdAnswer;
 use interrupt::types::SpiId;
 use interrupt::types::SpiIdAnswer;
 
-// Kind 0 and the value, or a refusal's number and what it carries.
-pub struct Answer {
-    pub kind: u64,
-    pub payload: u64,
-}
-
-impl Answer {
-    // The answer, with nothing changed.
-    pub fn unchanged(self, switch: u64) -> Seen {
-        Seen {
-            kind: self.kind,
-            payload: self.payload,
-            candidates: 0,
-            switch: switch,
-            changes: 0,
-            place: 0,
-            slot: 0,
-        }
-    }
-}
-
-pub fn done(value: u64) -> Answer {
-    Answer {
-        kind: 0,
-        payload: value,
-    }
-}
-
-pub fn refused(refusal: Refusal) -> Answer {
-    match refusal {
-        Refusal::InvalidIntId(raw) => Answer {
-            kind: 1,
-            payload: wide_word(raw),
-        },
-        Refusal::ResourceConflict => Answer {
-            kind: 2,
-            payload: 0,
-        },
-        Refusal::InvalidAccess => Answer {
-            kind: 3,
-            payload: 0,
-        },
-        Refusal::InvalidWidth => Answer {
-            kind: 4,
-            payload: 0,
-        },
-        Refusal::ShortList => Answer {
-            kind: 5,
-            payload: 0,
-        },
-    }
-}
-
-pub fn identifier(op: u64, a: u64, b: u64) -> Answer {
+pub fn run(call: Call) -> Answer {
+    let op = call.op;
+    let a = call.a;
     match op {
         0x01 => sgi(low_byte(a)),
         0x02 => ppi(low_byte(a)),
@@ -83,7 +34,7 @@ pub fn identifier(op: u64, a: u64, b: u64) -> Answer {
         0x06 => done(GicAffinity::from_mpidr(a).mpidr()),
         0x07 => done(slot::levels(GicAffinity::from_mpidr(a))),
         // 0x08
-        _ => record(low_word(a), b),
+        _ => record(low_word(a), call.b),
     }
 }
 
@@ -133,7 +84,7 @@ fn kind(id: IntId) -> u64 {
 
 fn record(raw: u32, mode: u64) -> Answer {
     match IntId::new(raw) {
-        IntIdAnswer::Made(id) => done(slot::pack(InterruptRecord::new(id, trigger(mode)))),
+        IntIdAnswer::Made(id) => done(slot::record(InterruptRecord::new(id, trigger(mode)))),
         IntIdAnswer::Refused(refusal) => refused(refusal),
     }
 }

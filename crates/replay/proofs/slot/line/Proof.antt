@@ -4,8 +4,8 @@ use mathlib.Core.Bool.{true, false}
 use borrow.Author.Needs.{needs}
 use Rattle.interrupt.specs.declared.interrupt.InterruptRecord.{InterruptRecord}
 use Rattle.interrupt.specs.Life.{enabledTo, pendingTo}
-use Rattle.vectors.proofs.slot.line.Statement.{statement}
-use Rattle.vectors.proofs.slot.line.Tie as tie
+use Rattle.replay.proofs.slot.line.Statement.{statement}
+use Rattle.replay.proofs.slot.line.Tie as tie
 
 seen : (r : InterruptRecord) → enabledTo true (pendingTo false r) .pending ≡ r .«line_asserted»
 unfolding enabledTo pendingTo
