@@ -34,9 +34,7 @@ pub extern "C" fn batch_run(calls: &[u64], seen: &mut [u64]) -> usize {
         let mut list = [UNTOUCHED; PLACES];
         let ran = run::run(d, call, &mut list);
         d = ran.state;
-        at = put_answer(ran.answer, bit(d.enabled()), seen, at);
-        at = put_list(call, &list, seen, at);
-        at = put_slots(d, seen, at);
+        at = put_seen(d, call, ran.answer, &list, seen, at);
         from = std::num::wrapping_add_usize(from, CALL);
         left -= 1;
     }
@@ -60,23 +58,37 @@ fn word(words: &[u64], at: usize) -> u64 {
 
 // Puts a word at a place, and answers the next place.
 fn put(word: u64, seen: &mut [u64], at: usize) -> usize {
+    let next = std::num::wrapping_add_usize(at, 1);
     if at < seen.len() {
         seen[at] = word;
+        return next;
     }
-    std::num::wrapping_add_usize(at, 1)
+    next
 }
 
-fn put_answer(answer: Answer, switch: u64, seen: &mut [u64], at: usize) -> usize {
+// What is seen of a call. Only a write is lent a list.
+fn put_seen(
+    d: DistributorState,
+    call: Call,
+    answer: Answer,
+    list: &[u32; PLACES],
+    seen: &mut [u64],
+    at: usize,
+) -> usize {
+    let places = if call.op == 0x12 { call.d } else { 0 };
+    let n = wide_word(d.size());
     let mut next = put(answer.kind, seen, at);
     next = put(answer.payload, seen, next);
     next = put(answer.count as u64, seen, next);
-    put(switch, seen, next)
+    next = put(bit(d.enabled()), seen, next);
+    next = put(places, seen, next);
+    next = put_list(list, places, seen, next);
+    next = put(n, seen, next);
+    put_slots(d, n, seen, next)
 }
 
-// Only a write is lent a list.
-fn put_list(call: Call, list: &[u32; PLACES], seen: &mut [u64], at: usize) -> usize {
-    let places = if call.op == 0x12 { call.d } else { 0 };
-    let mut next = put(places, seen, at);
+fn put_list(list: &[u32; PLACES], places: u64, seen: &mut [u64], at: usize) -> usize {
+    let mut next = at;
     let mut i = 0;
     while i < PLACES && (i as u64) < places {
         next = put(wide_word(list[i]), seen, next);
@@ -85,11 +97,10 @@ fn put_list(call: Call, list: &[u32; PLACES], seen: &mut [u64], at: usize) -> us
     next
 }
 
-fn put_slots(d: DistributorState, seen: &mut [u64], at: usize) -> usize {
-    let n = d.size();
-    let mut next = put(wide_word(n), seen, at);
+fn put_slots(d: DistributorState, n: u64, seen: &mut [u64], at: usize) -> usize {
+    let mut next = at;
     let mut i = 0;
-    while i < 988 && (i as u64) < wide_word(n) {
+    while i < 988 && (i as u64) < n {
         let s = d.slots[i];
         next = put(slot::pack(s), seen, next);
         i += 1;
