@@ -85,10 +85,14 @@ const FRAME: [(u64, Plan); 1] = [(1, Sequence::frame_end)];
 const REFUSED: [(u64, Plan); 1] = [(1, Sequence::identifier)];
 
 /// Splitmix64.
-struct Random(u64);
+pub struct Random(u64);
 
 impl Random {
-    fn next(&mut self) -> u64 {
+    pub fn new(seed: u64) -> Self {
+        Self(seed)
+    }
+
+    pub fn next(&mut self) -> u64 {
         self.0 = self.0.wrapping_add(0x9e37_79b9_7f4a_7c15);
         let mut z = self.0;
         z = (z ^ z >> 30).wrapping_mul(0xbf58_476d_1ce4_e5b9);
@@ -96,7 +100,7 @@ impl Random {
         z ^ z >> 31
     }
 
-    fn below(&mut self, limit: u64) -> u64 {
+    pub fn below(&mut self, limit: u64) -> u64 {
         self.next() % limit
     }
 
@@ -104,7 +108,7 @@ impl Random {
         self.below(100) < percent
     }
 
-    fn pick<'a, T>(&mut self, from: &'a [T]) -> &'a T {
+    pub fn pick<'a, T>(&mut self, from: &'a [T]) -> &'a T {
         &from[self.below(from.len() as u64) as usize]
     }
 
@@ -150,7 +154,7 @@ impl Iterator for Sequence {
 impl Sequence {
     /// The sequence with this index; a long one has `calls` calls.
     pub fn new(seed: u64, index: u64, calls: usize) -> Self {
-        let mut random = Random(seed);
+        let mut random = Random::new(seed);
         random.0 = random.next() ^ index;
         let mut sequence = Self {
             random,

@@ -23,9 +23,10 @@ pub fn unread() {
 }
 
 pub fn difference(line: u64, difference: Difference) {
+    let what = difference.what;
     count(b"difference in line ", line);
     text(b": ");
-    name(difference.what, difference.at as u64);
+    name(what, difference.at as u64);
     text(b"\n    in the list ");
     io::print_hex(STDOUT_FILENO, difference.listed, 1);
     text(b"\n    here        ");
