@@ -10,7 +10,11 @@ use distributor::register::AccessWidth;
 ghost use Prim.Native.Nat.{_≤_};
 
 pub fn read(d: DistributorState, call: Call) -> Answer {
-    match d.read(call.a, width(call.b)) {
+    seen(d.read(call.a, width(call.b)))
+}
+
+pub fn seen(answer: ReadAnswer) -> Answer {
+    match answer {
         ReadAnswer::Value(value) => answer::done(value),
         ReadAnswer::Refused(refusal) => answer::refused(refusal),
     }
@@ -42,14 +46,14 @@ fn write_on(d: DistributorState, call: Call, list: &mut [u32]) -> Ran {
     }
 }
 
-fn written(answer: WriteAnswer) -> Answer {
+pub fn written(answer: WriteAnswer) -> Answer {
     match answer {
         WriteAnswer::Listed(count) => answer::listed(count),
         WriteAnswer::Refused(refusal) => answer::refused(refusal),
     }
 }
 
-fn width(bytes: u64) -> AccessWidth {
+pub fn width(bytes: u64) -> AccessWidth {
     match bytes {
         1 => AccessWidth::Byte,
         2 => AccessWidth::Word,

@@ -17,6 +17,7 @@ use oracle::{
     driver::Oracle,
     generate::Sequence,
     list,
+    machine::Step,
     rattle::Rattle,
 };
 
@@ -40,23 +41,24 @@ fn main() -> ExitCode {
     }
     let began = Instant::now();
     let mut coverage = Coverage::default();
+    let mut rattle = Rattle::default();
     let (mut compared, mut told) = (0, 0);
     for sequence in 0.. {
         let seed = first.wrapping_add(sequence / OF_A_SEED);
         let index = sequence % INDICES;
         let calls: Vec<Call> = Sequence::new(seed, index, CALLS).collect();
         let note = |step: &_| coverage.note(step);
-        if let Some(difference) = differ(&calls, note) {
+        if let Some(difference) = differ(&mut rattle, &calls, note) {
             println!(
-                "\rdifference in sequence {index} of seed {seed}, call {}",
+                "difference in sequence {index} of seed {seed}, call {}",
                 difference.at
             );
-            report(&calls);
+            report(&mut rattle, &calls);
             return ExitCode::from(1);
         }
         compared += calls.len() as u64;
         if compared >= count {
-            println!("\r{coverage}");
+            println!("{coverage}");
             let seeds = sequence / OF_A_SEED + 1;
             println!(
                 "{compared} calls compared in {} sequences of {seeds} seeds: no difference",
@@ -67,24 +69,22 @@ fn main() -> ExitCode {
         if compared / 10_000 > told {
             told = compared / 10_000;
             let seconds = began.elapsed().as_secs();
-            print!("\r{compared} of {count} calls compared, {seconds} s");
-            io::stdout().flush().ok();
+            eprint!("\r{compared} of {count} calls compared, {seconds} s");
         }
     }
     ExitCode::SUCCESS
 }
 
-fn differ(calls: &[Call], note: impl FnMut(&oracle::machine::Step)) -> Option<Difference> {
-    let mut rattle = Rattle::default();
+fn differ(rattle: &mut Rattle, calls: &[Call], note: impl FnMut(&Step)) -> Option<Difference> {
     rattle.announce(calls);
     compare(calls, Oracle::default(), rattle, note)
 }
 
 /// The shortest sequence that was found, as lines of a list, and what each
 /// machine has in the last.
-fn report(calls: &[Call]) {
-    let short = shorten(calls, |calls| differ(calls, |_| ()).is_some());
-    let difference = differ(&short, |_| ()).expect("it still differs");
+fn report(rattle: &mut Rattle, calls: &[Call]) {
+    let short = shorten(calls, |calls| differ(rattle, calls, |_| ()).is_some());
+    let difference = differ(rattle, &short, |_| ()).expect("it still differs");
     println!("{} calls show it:", difference.at + 1);
     for Call {
         op,

@@ -6,10 +6,13 @@ use Rattle.batch.proofs.bench.add_list.Statement.{statement}
 use Rattle.batch.proofs.bench.add_list.Tie as tie
 
 abbrev Inv-loop : tie.InvT-loop
-Inv-loop first count list sum₀ i₀ sum i = Unit {0}
+Inv-loop first list count sum₀ i₀ sum i = Unit {0}
 
 abbrev μ-loop : tie.MeasureT-loop
-μ-loop first count list sum₀ i₀ sum i = 996 - i
+μ-loop first list count sum₀ i₀ sum i = 996 - i
+
+add-requires : tie.Need-add-requires Inv-loop μ-loop
+add-requires c κs = tt
 
 loop-holds : tie.Need-loop-holds Inv-loop μ-loop
 loop-holds c = tt
@@ -47,6 +50,7 @@ add-list-spec =
     (tie.spec
     Inv-loop
     μ-loop
+    add-requires
     loop-holds
     mul-wide-word
     element-copy-out-wide-word
