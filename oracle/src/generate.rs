@@ -92,7 +92,7 @@ impl Random {
         Self(seed)
     }
 
-    pub fn next(&mut self) -> u64 {
+    pub fn any(&mut self) -> u64 {
         self.0 = self.0.wrapping_add(0x9e37_79b9_7f4a_7c15);
         let mut z = self.0;
         z = (z ^ z >> 30).wrapping_mul(0xbf58_476d_1ce4_e5b9);
@@ -101,7 +101,7 @@ impl Random {
     }
 
     pub fn below(&mut self, limit: u64) -> u64 {
-        self.next() % limit
+        self.any() % limit
     }
 
     fn chance(&mut self, percent: u64) -> bool {
@@ -155,7 +155,7 @@ impl Sequence {
     /// The sequence with this index; a long one has `calls` calls.
     pub fn new(seed: u64, index: u64, calls: usize) -> Self {
         let mut random = Random::new(seed);
-        random.0 = random.next() ^ index;
+        random.0 = random.any() ^ index;
         let mut sequence = Self {
             random,
             left: calls,
@@ -502,13 +502,13 @@ impl Sequence {
     /// count; else few bits, all, or any.
     fn value(&mut self, offset: u64, aims: &[u64]) -> u64 {
         let bank = BANKS.iter().find(|bank| bank.holds(offset));
-        let any = self.random.next();
+        let any = self.random.any();
         match (self.random.below(24), bank.map(|bank| bank.bits)) {
             (0, _) => u64::MAX,
             (1, _) => 0,
             (2, _) => any,
             (3, _) => 1 << (any % 64),
-            (4, _) => any & self.random.next() & self.random.next() & self.random.next(),
+            (4, _) => any & self.random.any() & self.random.any() & self.random.any(),
             (_, Some(bits @ (1 | 2))) => {
                 let counting = if bits == 1 { 0xffff_ffff } else { 0xaaaa_aaaa };
                 let mut value = any & !counting;
@@ -534,7 +534,7 @@ impl Sequence {
             Arg::Affinity => &AFFINITIES,
             _ => unreachable!("made where it is used"),
         };
-        let any = self.random.next();
+        let any = self.random.any();
         match arg {
             Arg::Byte if any & 1 == 0 => any >> 8 & 0xff,
             Arg::Number if any & 3 == 0 => (any >> 8) % 1100,

@@ -117,3 +117,30 @@ impl Machine for Rattle {
         slots.clone_from(&self.slots);
     }
 }
+
+#[cfg(test)]
+mod tests {
+    use super::*;
+    use crate::{board, driver::Oracle, generate::Sequence};
+
+    #[test]
+    fn the_boards_examples_come_out_as_the_paper_has_them() {
+        for row in board::rows(Rattle::default) {
+            assert!(row.agrees(), "{} {}: {}", row.case, row.call, row.said);
+        }
+    }
+
+    #[test]
+    fn calls_that_were_not_announced_are_answered_too() {
+        let (mut rattle, mut oracle) = (Rattle::default(), Oracle::default());
+        let (mut seen, mut expected) = (Vec::new(), Vec::new());
+        let sequences = [12, 13].map(|index| Sequence::new(9, index, 120));
+        for call in sequences.into_iter().flatten() {
+            assert_eq!(rattle.run(&call), oracle.run(&call));
+            assert_eq!(rattle.switch(), oracle.switch());
+            rattle.look(&mut seen);
+            oracle.look(&mut expected);
+            assert_eq!(seen, expected);
+        }
+    }
+}

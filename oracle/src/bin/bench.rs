@@ -122,7 +122,7 @@ fn mixed(spis: u64, count: usize) -> Vec<Call> {
 fn value(bank: &Bank, random: &mut Random) -> u64 {
     match bank.bits {
         1 => 1 << random.below(32),
-        _ => random.next(),
+        _ => random.any(),
     }
 }
 

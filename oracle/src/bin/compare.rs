@@ -58,6 +58,7 @@ fn main() -> ExitCode {
         }
         compared += calls.len() as u64;
         if compared >= count {
+            eprintln!();
             println!("{coverage}");
             let seeds = sequence / OF_A_SEED + 1;
             println!(
@@ -66,8 +67,8 @@ fn main() -> ExitCode {
             );
             break;
         }
-        if compared / 10_000 > told {
-            told = compared / 10_000;
+        if compared / 100_000 > told {
+            told = compared / 100_000;
             let seconds = began.elapsed().as_secs();
             eprint!("\r{compared} of {count} calls compared, {seconds} s");
         }
