@@ -1,6 +1,7 @@
 //! Points the library at the four Rust files, which it compiles where they lie.
 //! `ARM_VGIC_SRC` names their folder; `default-source`, read from the
-//! repository's root, is used where it is not set.
+//! repository's root, is used where it is not set. With the feature `rattle` it
+//! also links the Rattle Distributor, from the folder that `RATTLE_LIB` names.
 
 use std::{env, fs, path::PathBuf, process};
 
@@ -18,6 +19,20 @@ fn main() {
     );
     println!("cargo:rerun-if-env-changed=ARM_VGIC_SRC");
     println!("cargo:rerun-if-changed=default-source");
+
+    println!("cargo:rerun-if-env-changed=RATTLE_LIB");
+    if env::var_os("CARGO_FEATURE_RATTLE").is_some() {
+        let Some(folder) = env::var_os("RATTLE_LIB").map(PathBuf::from) else {
+            eprintln!("oracle: RATTLE_LIB is to name the folder of libbatch.a");
+            process::exit(2);
+        };
+        println!(
+            "cargo:rerun-if-changed={}",
+            folder.join("libbatch.a").display()
+        );
+        println!("cargo:rustc-link-search=native={}", folder.display());
+        println!("cargo:rustc-link-lib=static=batch");
+    }
 
     let mut text = String::new();
     for module in MODULES {

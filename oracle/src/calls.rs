@@ -154,13 +154,19 @@ impl Call {
 }
 
 /// An answer: `kind` is 0 when done, else the refusal's number. `payload` is the
-/// value when done, the number that refusal 1 carries, else 0.
+/// value when done, the number that refusal 1 carries, else 0. `lent` is the
+/// list that a write was lent, as the call leaves it: `UNTOUCHED` stands in each
+/// of its places before.
 #[derive(Clone, Debug, Default, Eq, PartialEq)]
 pub struct Answer {
     pub kind: u8,
     pub payload: u64,
     pub candidates: Vec<u32>,
+    pub lent: Vec<u32>,
 }
+
+/// No INTID.
+pub const UNTOUCHED: u32 = u32::MAX;
 
 #[cfg(test)]
 mod tests {

@@ -8,7 +8,7 @@
 use crate::{
     AccessWidth, DistributorState, GicAffinity, GicV3SpiOwnership, IntId, InterruptRecord,
     InterruptState, LpiId, PpiId, Priority, SgiId, SpiId, TriggerMode, VgicError, VgicResult,
-    calls::{Answer, Call, Op},
+    calls::{Answer, Call, Op, UNTOUCHED},
     controller::ControllerConfig,
     machine::{
         ACTIVE, CLAIMED, EDGE, ENABLED, FIXED, INFLIGHT, LINE, MASKED, Machine, PENDING,
@@ -30,7 +30,12 @@ struct Made {
 
 impl Machine for Oracle {
     fn run(&mut self, call: &Call) -> Answer {
-        self.answer(call).unwrap_or_else(refusal)
+        let mut answer = self.bare(call);
+        if call.op == Op::Write {
+            answer.lent = answer.candidates.clone();
+            answer.lent.resize(call.args[3] as usize, UNTOUCHED);
+        }
+        answer
     }
 
     fn switch(&self) -> bool {
@@ -63,6 +68,12 @@ impl Machine for Oracle {
 }
 
 impl Oracle {
+    /// The answer without the lent list, which the Rust does not have: it hands
+    /// back a list of its own.
+    pub fn bare(&mut self, call: &Call) -> Answer {
+        self.answer(call).unwrap_or_else(refusal)
+    }
+
     /// A row a call. `done` is for those without a value.
     #[allow(clippy::unit_arg)]
     fn answer(&mut self, call: &Call) -> VgicResult<Answer> {
@@ -209,7 +220,7 @@ fn refusal(error: VgicError) -> Answer {
     Answer {
         kind,
         payload,
-        candidates: Vec::new(),
+        ..Answer::default()
     }
 }
 

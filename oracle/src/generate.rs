@@ -85,10 +85,14 @@ const FRAME: [(u64, Plan); 1] = [(1, Sequence::frame_end)];
 const REFUSED: [(u64, Plan); 1] = [(1, Sequence::identifier)];
 
 /// Splitmix64.
-struct Random(u64);
+pub struct Random(u64);
 
 impl Random {
-    fn next(&mut self) -> u64 {
+    pub fn new(seed: u64) -> Self {
+        Self(seed)
+    }
+
+    pub fn any(&mut self) -> u64 {
         self.0 = self.0.wrapping_add(0x9e37_79b9_7f4a_7c15);
         let mut z = self.0;
         z = (z ^ z >> 30).wrapping_mul(0xbf58_476d_1ce4_e5b9);
@@ -96,15 +100,15 @@ impl Random {
         z ^ z >> 31
     }
 
-    fn below(&mut self, limit: u64) -> u64 {
-        self.next() % limit
+    pub fn below(&mut self, limit: u64) -> u64 {
+        self.any() % limit
     }
 
     fn chance(&mut self, percent: u64) -> bool {
         self.below(100) < percent
     }
 
-    fn pick<'a, T>(&mut self, from: &'a [T]) -> &'a T {
+    pub fn pick<'a, T>(&mut self, from: &'a [T]) -> &'a T {
         &from[self.below(from.len() as u64) as usize]
     }
 
@@ -150,8 +154,8 @@ impl Iterator for Sequence {
 impl Sequence {
     /// The sequence with this index; a long one has `calls` calls.
     pub fn new(seed: u64, index: u64, calls: usize) -> Self {
-        let mut random = Random(seed);
-        random.0 = random.next() ^ index;
+        let mut random = Random::new(seed);
+        random.0 = random.any() ^ index;
         let mut sequence = Self {
             random,
             left: calls,
@@ -498,13 +502,13 @@ impl Sequence {
     /// count; else few bits, all, or any.
     fn value(&mut self, offset: u64, aims: &[u64]) -> u64 {
         let bank = BANKS.iter().find(|bank| bank.holds(offset));
-        let any = self.random.next();
+        let any = self.random.any();
         match (self.random.below(24), bank.map(|bank| bank.bits)) {
             (0, _) => u64::MAX,
             (1, _) => 0,
             (2, _) => any,
             (3, _) => 1 << (any % 64),
-            (4, _) => any & self.random.next() & self.random.next() & self.random.next(),
+            (4, _) => any & self.random.any() & self.random.any() & self.random.any(),
             (_, Some(bits @ (1 | 2))) => {
                 let counting = if bits == 1 { 0xffff_ffff } else { 0xaaaa_aaaa };
                 let mut value = any & !counting;
@@ -530,7 +534,7 @@ impl Sequence {
             Arg::Affinity => &AFFINITIES,
             _ => unreachable!("made where it is used"),
         };
-        let any = self.random.next();
+        let any = self.random.any();
         match arg {
             Arg::Byte if any & 1 == 0 => any >> 8 & 0xff,
             Arg::Number if any & 3 == 0 => (any >> 8) % 1100,

@@ -10,11 +10,14 @@ extern crate self as axvm_types;
 
 pub mod board;
 pub mod calls;
+pub mod compare;
 pub mod coverage;
 pub mod driver;
 pub mod generate;
 pub mod list;
 pub mod machine;
+#[cfg(feature = "rattle")]
+pub mod rattle;
 pub mod reach;
 pub mod registers;
 mod stand_ins;

@@ -32,6 +32,20 @@ pub trait Machine {
     fn look(&mut self, slots: &mut Vec<u64>);
 }
 
+impl<M: Machine> Machine for &mut M {
+    fn run(&mut self, call: &Call) -> Answer {
+        (**self).run(call)
+    }
+
+    fn switch(&self) -> bool {
+        (**self).switch()
+    }
+
+    fn look(&mut self, slots: &mut Vec<u64>) {
+        (**self).look(slots);
+    }
+}
+
 /// A call and all that can be seen of it. `changes` are the slots that differ
 /// from before the call, as place and slot, ascending. A creation starts from
 /// fresh slots.

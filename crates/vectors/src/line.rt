@@ -1,26 +1,19 @@
 // A line of a list, taken apart: the call, and what was seen of it.
+use replay::call::Call;
 ghost use Prim.Native.Nat.{_≤_};
 
 // The most words of a line: ten, a candidate for each of 988 SPIs, and a place and a slot for each, fit.
 pub const WORDS: usize = 4096;
 
-pub struct Call {
-    pub op: u64,
-    pub a: u64,
-    pub b: u64,
-    pub c: u64,
-    pub d: u64,
-}
+// The word at which the candidates begin.
+pub const CANDIDATES: usize = 8;
 
-// What is seen of a call: its answer, how many candidates, the switch, how many slots changed, and the first of them.
+// What is seen of a call but for the candidates and the slots.
 pub struct Seen {
     pub kind: u64,
     pub payload: u64,
     pub candidates: u64,
     pub switch: u64,
-    pub changes: u64,
-    pub place: u64,
-    pub slot: u64,
 }
 
 pub struct Line {
@@ -34,18 +27,6 @@ pub struct Line {
 pub enum Parsed {
     Whole(Line),
     Bad,
-}
-
-impl Seen {
-    pub fn same(self, other: Seen) -> bool {
-        (self.kind == other.kind)
-            & (self.payload == other.payload)
-            & (self.candidates == other.candidates)
-            & (self.switch == other.switch)
-            & (self.changes == other.changes)
-            & (self.place == other.place)
-            & (self.slot == other.slot)
-    }
 }
 
 // The word at a place, 0 past the line's end.
@@ -71,9 +52,10 @@ pub fn parse(words: &[u64; WORDS], count: usize) -> Parsed {
         return Parsed::Bad;
     }
     let first = candidates as usize + 10;
-    let seen = seen_of(words, count, first);
+    let changes = word(words, count, first - 1);
+    let seen = seen_of(words, word(words, count, first - 2));
     let pairs = length - 10 - candidates;
-    if (seen.changes != pairs / 2) | (pairs % 2 != 0) | (1 < seen.switch) {
+    if (changes != pairs / 2) | (pairs % 2 != 0) | (1 < seen.switch) {
         return Parsed::Bad;
     }
     Parsed::Whole(Line {
@@ -94,17 +76,11 @@ fn call_of(words: &[u64; WORDS]) -> Call {
     }
 }
 
-// `first` is where the changed slots begin.
-fn seen_of(words: &[u64; WORDS], count: usize, first: usize) -> Seen
-    requires { ⌜ (10 ≤ first) × (first ≤ 4096) ⌝ }
-{
+fn seen_of(words: &[u64; WORDS], switch: u64) -> Seen {
     Seen {
         kind: words[5],
         payload: words[6],
         candidates: words[7],
-        switch: word(words, count, first - 2),
-        changes: word(words, count, first - 1),
-        place: word(words, count, first),
-        slot: word(words, count, first + 1),
+        switch: switch,
     }
 }

@@ -1,5 +1,6 @@
 // What the program writes.
-use crate::line::Seen;
+use crate::compare::Difference;
+use crate::compare::What;
 use libc::STDOUT_FILENO;
 
 fn text(bytes: &[u8]) {
@@ -21,38 +22,40 @@ pub fn unread() {
     text(b"the list cannot be read\n");
 }
 
-pub fn difference(line: u64, seen: Seen, got: Seen) {
+pub fn difference(line: u64, difference: Difference) {
+    let what = difference.what;
     count(b"difference in line ", line);
-    text(b": kind payload candidates switch changes place slot");
-    words(b"\n    in the list", seen);
-    words(b"\n    here       ", got);
+    text(b": ");
+    name(what, difference.at as u64);
+    text(b"\n    in the list ");
+    io::print_hex(STDOUT_FILENO, difference.listed, 1);
+    text(b"\n    here        ");
+    io::print_hex(STDOUT_FILENO, difference.here, 1);
     text(b"\n");
 }
 
-// What is seen of a call, as a list has it.
-fn words(before: &[u8], seen: Seen) {
-    text(before);
-    word(seen.kind);
-    word(seen.payload);
-    word(seen.candidates);
-    word(seen.switch);
-    word(seen.changes);
-    word(seen.place);
-    word(seen.slot);
+fn name(what: What, at: u64) {
+    match what {
+        What::Nothing => text(b"nothing"),
+        What::Kind => text(b"kind"),
+        What::Payload => text(b"payload"),
+        What::Count => text(b"number of candidates"),
+        What::Switch => text(b"switch"),
+        What::Place => count(b"place of the lent list ", at),
+        What::Slot => count(b"slot of place ", at),
+    }
 }
 
-fn word(n: u64) {
-    text(b" ");
-    io::print_hex(STDOUT_FILENO, n, 1);
-}
-
-pub fn summary(identifiers: u64, records: u64, passed: u64) {
+pub fn summary(identifiers: u64, creations: u64, guest: u64, host: u64) {
+    let alone = std::num::wrapping_add_u64(identifiers, creations);
+    let others = std::num::wrapping_add_u64(guest, host);
     count(
         b"calls compared: ",
-        std::num::wrapping_add_u64(identifiers, records),
+        std::num::wrapping_add_u64(alone, others),
     );
     count(b"\n    on identifiers: ", identifiers);
-    count(b"\n    on records: ", records);
-    count(b"\ncalls passed over: ", passed);
+    count(b"\n    creations: ", creations);
+    count(b"\n    by the guest: ", guest);
+    count(b"\n    by the host: ", host);
     text(b"\nno difference\n");
 }

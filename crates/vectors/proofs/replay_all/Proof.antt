@@ -4,16 +4,19 @@ use Rattle.vectors.proofs.replay_all.Statement.{statement}
 use Rattle.vectors.proofs.replay_all.Tie as tie
 
 abbrev Inv-loop : tie.InvT-loop
-Inv-loop words₀ slots₀ run₀ turns₀ words slots run turns = Unit {0}
+Inv-loop words₀ slots₀ step₀ reading₀ turns₀ words slots step reading turns = Unit {0}
 
 abbrev μ-loop : tie.MeasureT-loop
-μ-loop words₀ slots₀ run₀ turns₀ words slots run turns = turns
+μ-loop words₀ slots₀ step₀ reading₀ turns₀ words slots step reading turns = turns
 
 loop-holds : tie.Need-loop-holds Inv-loop μ-loop
 loop-holds c = tt
 
 replay-some-requires : tie.Need-replay-some-requires Inv-loop μ-loop
 replay-some-requires c κs = tt
+
+reading-requires : tie.Need-reading-requires Inv-loop μ-loop
+reading-requires c κs = tt
 
 sub-turns : tie.Need-sub-turns Inv-loop μ-loop
 sub-turns c = omega arith
@@ -33,4 +36,14 @@ returns-2 c = tt
 pub replay-all-spec : {M : Type 1} → statement M
 replay-all-spec =
     tie.close
-    (tie.spec Inv-loop μ-loop loop-holds replay-some-requires sub-turns loop-less loop-again returns returns-2)
+    (tie.spec
+    Inv-loop
+    μ-loop
+    loop-holds
+    replay-some-requires
+    reading-requires
+    sub-turns
+    loop-less
+    loop-again
+    returns
+    returns-2)

@@ -1,0 +1,64 @@
+// A call, run on a Distributor.
+use crate::answer;
+use crate::answer::Answer;
+use crate::call;
+use crate::call::Call;
+use crate::call::Family;
+use crate::change;
+use crate::create;
+use crate::guest;
+use crate::identifier;
+use crate::number::bit;
+use crate::number::has;
+use crate::number::low_word;
+use crate::question;
+use distributor::distributor::DistributorState;
+use interrupt::types::SpiId;
+use interrupt::types::SpiIdAnswer;
+
+// The Distributor after a call, and what the call answered.
+pub struct Ran {
+    pub state: DistributorState,
+    pub answer: Answer,
+}
+
+// A write is lent the first `call.d` places of `room`, or all of them where it has fewer.
+pub fn run(d: DistributorState, call: Call, room: &mut [u32]) -> Ran {
+    match call::family_of(call.op) {
+        Family::Identifier => kept(d, identifier::run(call)),
+        Family::Creation => create::create(call),
+        Family::Read => kept(d, guest::read(d, call)),
+        Family::Write => guest::write(d, call, room),
+        Family::Switch => kept(d, answer::done(bit(d.enabled()))),
+        Family::Rollback => Ran {
+            state: d.set_enabled_for_rollback(has(call.a, 1)),
+            answer: answer::done(0),
+        },
+        Family::Change => change_spi(d, call),
+        Family::Question => kept(d, ask_spi(d, call)),
+        Family::Unknown => kept(d, answer::unknown()),
+    }
+}
+
+// A call that changes nothing.
+fn kept(d: DistributorState, answer: Answer) -> Ran {
+    Ran {
+        state: d,
+        answer: answer,
+    }
+}
+
+// A number that is no SPI's is refused before the Distributor is asked, since its calls take an `SpiId`.
+fn change_spi(d: DistributorState, call: Call) -> Ran {
+    match SpiId::new(low_word(call.a)) {
+        SpiIdAnswer::Made(spi) => change::change(d, spi, call.op, call.b),
+        SpiIdAnswer::Refused(refusal) => kept(d, answer::refused(refusal)),
+    }
+}
+
+fn ask_spi(d: DistributorState, call: Call) -> Answer {
+    match SpiId::new(low_word(call.a)) {
+        SpiIdAnswer::Made(spi) => question::ask(d, spi, call.op),
+        SpiIdAnswer::Refused(refusal) => answer::refused(refusal),
+    }
+}

@@ -1,0 +1,132 @@
+//! `bench [CALLS] [REPEATS]` times mixed reads and writes on the Rust and on the
+//! Rattle Distributor, and prints how many times as long the one takes as the
+//! other. A sum of all answers has to be the same.
+
+use std::{env, process, time::Instant};
+
+use oracle::{
+    calls::{Call, Op},
+    driver::Oracle,
+    generate::Random,
+    machine::Machine as _,
+    rattle,
+    registers::{BANKS, Bank},
+};
+
+const SEED: u64 = 1;
+
+fn main() {
+    let args: Vec<String> = env::args().skip(1).collect();
+    let number = |at: usize, otherwise: usize| match args.get(at) {
+        Some(arg) => arg.parse().unwrap_or_else(|_| usage()),
+        None => otherwise,
+    };
+    let (count, repeats) = (number(0, 1_000_000), number(1, 5));
+    if args.len() > 2 || repeats == 0 {
+        usage();
+    }
+    println!("{count} reads and writes, all guest-owned, {repeats} repeats; ns a call");
+    println!(
+        "{:>5}{:>12}{:>12}{:>14}{:>14}{:>16}{:>16}",
+        "N", "Rust min", "median", "Rattle min", "median", "ratio of mins", "of medians"
+    );
+    for spis in [988, 40] {
+        let calls = mixed(spis, count);
+        let words = rattle::encode(&calls);
+        let mut times = [Vec::new(), Vec::new()];
+        for _ in 0..repeats {
+            let sums = [
+                timed(&mut times[0], || run(&calls)),
+                timed(&mut times[1], || rattle::bench(&words)),
+            ];
+            if sums[0] != sums[1] {
+                println!(
+                    "N = {spis}: the sums {:x} and {:x} differ",
+                    sums[0], sums[1]
+                );
+                process::exit(1);
+            }
+        }
+        let [rust, rattle] = times.map(|mut times| {
+            times.sort_by(f64::total_cmp);
+            [times[0], times[repeats / 2]].map(|time| time / count as f64 * 1e9)
+        });
+        println!(
+            "{spis:>5}{:>12.1}{:>12.1}{:>14.1}{:>14.1}{:>16.1}{:>16.1}",
+            rust[0],
+            rust[1],
+            rattle[0],
+            rattle[1],
+            rattle[0] / rust[0],
+            rattle[1] / rust[1]
+        );
+    }
+}
+
+fn timed(times: &mut Vec<f64>, run: impl FnOnce() -> u64) -> u64 {
+    let began = Instant::now();
+    let sum = run();
+    times.push(began.elapsed().as_secs_f64());
+    sum
+}
+
+/// The same sum as the library's.
+fn run(calls: &[Call]) -> u64 {
+    let mut oracle = Oracle::default();
+    oracle.run(&calls[0]);
+    let mut sum = 0u64;
+    for call in &calls[1..] {
+        let answer = oracle.bare(call);
+        let words = [
+            answer.kind.into(),
+            answer.payload,
+            answer.candidates.len() as u64,
+        ];
+        let candidates = answer.candidates.iter().map(|&intid| intid.into());
+        for word in words.into_iter().chain(candidates) {
+            sum = sum.rotate_left(1).wrapping_add(word);
+        }
+    }
+    sum
+}
+
+/// A creation, and then reads and writes in turn by chance: one in 20 to CTLR,
+/// TYPER, IIDR or the component bank, the others to any bank at any INTID of the
+/// table. Each has a width that its register takes.
+fn mixed(spis: u64, count: usize) -> Vec<Call> {
+    let mut random = Random::new(SEED);
+    let mut calls = vec![Call::new(Op::Create, &[spis, 0, 0x1_0000, 0])];
+    while calls.len() <= count {
+        let by_intid = random.below(20) > 0;
+        let bank = loop {
+            let bank = random.pick(&BANKS);
+            if by_intid == (bank.bits > 0) {
+                break bank;
+            }
+        };
+        let width = *random.pick(bank.widths);
+        let offset = match bank.bits {
+            0 => bank.start + random.below(bank.end - bank.start),
+            _ => bank.offset_of(32 + random.below(spis)),
+        };
+        let offset = offset - offset % width;
+        calls.push(match random.below(2) {
+            0 => Call::new(Op::Read, &[offset, width]),
+            _ => Call::new(Op::Write, &[offset, width, value(bank, &mut random), spis]),
+        });
+    }
+    calls
+}
+
+/// One bit in a flag bank, any number elsewhere.
+fn value(bank: &Bank, random: &mut Random) -> u64 {
+    match bank.bits {
+        1 => 1 << random.below(32),
+        _ => random.any(),
+    }
+}
+
+fn usage() -> ! {
+    eprintln!("bench [CALLS] [REPEATS]");
+    process::exit(2)
+}

@@ -1,0 +1,146 @@
+//! The Rattle Distributor as a machine, over the static library `batch`.
+//!
+//! The library runs a whole sequence in one call and hands back all that is seen
+//! of it; no state is kept between two calls. So the machine is told which calls
+//! will come (`announce`) and runs them at once. A call that was not announced
+//! makes it run all calls since the last creation again.
+
+use crate::{
+    calls::{Answer, Call, Op},
+    machine::Machine,
+};
+
+// A slice crosses as a pointer and a count.
+unsafe extern "C" {
+    fn batch_run(calls: *const u64, words: usize, seen: *mut u64, room: usize) -> usize;
+    fn batch_bench(calls: *const u64, words: usize) -> u64;
+}
+
+/// Each call as five words.
+pub fn encode(calls: &[Call]) -> Vec<u64> {
+    let words = |call: &Call| {
+        let [a, b, c, d] = call.args;
+        [call.op as u64, a, b, c, d]
+    };
+    calls.iter().flat_map(words).collect()
+}
+
+/// Runs a creation and then reads and writes, and hands back a sum of their
+/// answers.
+pub fn bench(calls: &[u64]) -> u64 {
+    unsafe { batch_bench(calls.as_ptr(), calls.len()) }
+}
+
+#[derive(Default)]
+pub struct Rattle {
+    /// The calls from the last creation on, those announced included.
+    calls: Vec<Call>,
+    /// What the library hands back of them.
+    seen: Vec<u64>,
+    /// How many of the calls were asked for, and how many words of `seen` they
+    /// take.
+    ran: usize,
+    at: usize,
+    switch: bool,
+    slots: Vec<u64>,
+}
+
+impl Rattle {
+    /// The calls that will come, from a creation on.
+    pub fn announce(&mut self, calls: &[Call]) {
+        self.calls = calls.to_vec();
+        self.ran = 0;
+        self.at = 0;
+        self.play();
+    }
+
+    fn play(&mut self) {
+        let calls = encode(&self.calls);
+        loop {
+            let room = self.seen.len();
+            let words = unsafe {
+                let seen = self.seen.as_mut_ptr();
+                batch_run(calls.as_ptr(), calls.len(), seen, room)
+            };
+            if words <= room {
+                return;
+            }
+            self.seen.resize(words, 0);
+        }
+    }
+
+    fn word(&mut self) -> u64 {
+        self.at += 1;
+        self.seen[self.at - 1]
+    }
+
+    /// A count and as many words.
+    fn words(&mut self) -> Vec<u64> {
+        let count = self.word() as usize;
+        self.at += count;
+        self.seen[self.at - count..self.at].to_vec()
+    }
+}
+
+impl Machine for Rattle {
+    fn run(&mut self, call: &Call) -> Answer {
+        if self.calls.get(self.ran) != Some(call) {
+            self.calls.truncate(self.ran);
+            if call.op == Op::Create {
+                self.calls.clear();
+                self.ran = 0;
+                self.at = 0;
+            }
+            self.calls.push(*call);
+            self.play();
+        }
+        self.ran += 1;
+        let kind = self.word() as u8;
+        let payload = self.word();
+        let count = self.word() as usize;
+        self.switch = self.word() != 0;
+        let lent: Vec<u32> = self.words().into_iter().map(|word| word as u32).collect();
+        self.slots = self.words();
+        Answer {
+            kind,
+            payload,
+            candidates: lent.iter().copied().take(count).collect(),
+            lent,
+        }
+    }
+
+    fn switch(&self) -> bool {
+        self.switch
+    }
+
+    fn look(&mut self, slots: &mut Vec<u64>) {
+        slots.clone_from(&self.slots);
+    }
+}
+
+#[cfg(test)]
+mod tests {
+    use super::*;
+    use crate::{board, driver::Oracle, generate::Sequence};
+
+    #[test]
+    fn the_boards_examples_come_out_as_the_paper_has_them() {
+        for row in board::rows(Rattle::default) {
+            assert!(row.agrees(), "{} {}: {}", row.case, row.call, row.said);
+        }
+    }
+
+    #[test]
+    fn calls_that_were_not_announced_are_answered_too() {
+        let (mut rattle, mut oracle) = (Rattle::default(), Oracle::default());
+        let (mut seen, mut expected) = (Vec::new(), Vec::new());
+        let sequences = [12, 13].map(|index| Sequence::new(9, index, 120));
+        for call in sequences.into_iter().flatten() {
+            assert_eq!(rattle.run(&call), oracle.run(&call));
+            assert_eq!(rattle.switch(), oracle.switch());
+            rattle.look(&mut seen);
+            oracle.look(&mut expected);
+            assert_eq!(seen, expected);
+        }
+    }
+}
