@@ -44,7 +44,7 @@ pub fn sequence(seed: u64, index: u64, count: u64) -> Vec<Call> {
     random.0 = random.next() ^ index;
     let edges = [32, 63, 64, 31 + count, 32 + random.below(count)];
     let near = random.pick(&edges);
-    let hot = [near, near, 32 + random.below(count)];
+    let hot = [near, (near ^ 1).min(31 + count), 32 + random.below(count)];
     let mut choice = Choice { random, hot, count };
     (0..CALLS).map(|_| choice.call()).collect()
 }
@@ -81,7 +81,9 @@ impl Choice {
         let at = self.random.below(BANKS.len() as u64);
         let bank = &BANKS[at as usize];
         let made_for = self.random.below(12) != 0;
-        let width = self.random.pick(if made_for { bank.widths } else { &WIDTHS });
+        let width = self
+            .random
+            .pick(if made_for { bank.widths } else { &WIDTHS });
         let offset = match bank.bits {
             0 => bank.start + self.random.below(bank.end - bank.start),
             _ => bank.offset_of(self.random.pick(&self.hot)),
@@ -95,7 +97,9 @@ impl Choice {
         let at = self.random.below(BANKS.len() as u64);
         let bank = &BANKS[at as usize];
         let table = [bank.offset_of(32), bank.offset_of(32 + self.count)];
-        let edge = self.random.pick(&[bank.start, bank.last(), bank.end, table[0], table[1]]);
+        let edge = self
+            .random
+            .pick(&[bank.start, bank.last(), bank.end, table[0], table[1]]);
         let near = self.random.pick(&[0, 0, 1, 2, 4, 8]);
         let offset = match self.random.below(2) {
             0 => edge + near,
@@ -108,7 +112,14 @@ impl Choice {
     fn any_width(&mut self, offset: u64) -> Call {
         let width = self.random.pick(&WIDTHS);
         let aligned = self.random.below(8) != 0;
-        self.access(if aligned { offset - offset % width } else { offset }, width)
+        self.access(
+            if aligned {
+                offset - offset % width
+            } else {
+                offset
+            },
+            width,
+        )
     }
 
     fn access(&mut self, offset: u64, width: u64) -> Call {
@@ -128,9 +139,13 @@ impl Choice {
             (1, _) => 0,
             (2, _) => any & self.random.next() & self.random.next(),
             (3.., Some(bank @ Bank { bits: 1 | 2, .. })) => {
-                let inside = self.hot.iter().filter(|&&intid| bank.offset_of(intid) & !3 == offset);
-                let bits = inside.map(|intid| bank.bits << (intid * bank.bits % 32));
-                bits.fold(0, |value, bit| value | bit)
+                let mut value = 0;
+                for intid in self.hot {
+                    if bank.offset_of(intid) & !3 == offset && self.random.below(3) > 0 {
+                        value |= bank.bits << (intid * bank.bits % 32);
+                    }
+                }
+                value
             }
             (3..7, Some(Bank { bits: 64, .. })) => any & 0xff_00ff_ffff,
             _ => any,

@@ -70,7 +70,10 @@ impl<'a> Pair<'a> {
         let flag = |at: u64| self.typer >> at & 1;
         let settings = flag(17) << 1 | 1 << 2 | flag(24) << 3 | flag(26) << 4;
         let id_bits = (self.typer >> 19 & 0x1f) + 1;
-        Call::new(Op::Create, &[self.count, settings, FRAME, (1 << id_bits) - 1])
+        Call::new(
+            Op::Create,
+            &[self.count, settings, FRAME, (1 << id_bits) - 1],
+        )
     }
 
     /// Runs calls from a fresh start and gives what was found, with the number
@@ -78,7 +81,9 @@ impl<'a> Pair<'a> {
     pub fn run(&mut self, calls: &[Call]) -> Vec<(usize, Found)> {
         let mut all = Vec::new();
         let mut note = |past: usize, found: BTreeSet<Found>| {
-            let explained = found.iter().all(|&(name, kind)| entry(name, kind).is_some());
+            let explained = found
+                .iter()
+                .all(|&(name, kind)| entry(name, kind).is_some());
             all.extend(found.into_iter().map(|one| (past, one)));
             explained
         };
@@ -120,7 +125,12 @@ impl<'a> Pair<'a> {
             _ => (0, &values[..]),
         };
         let register = register(call);
-        let ran = Ran { call, register, answer, value };
+        let ran = Ran {
+            call,
+            register,
+            answer,
+            value,
+        };
         let mut found: BTreeSet<Found> = self.answers(&ran).into_iter().collect();
         found.extend(self.states(&look, values, |intid, before, now, shown| {
             changes(&ran, intid, before, now, shown)
@@ -155,7 +165,11 @@ impl<'a> Pair<'a> {
                 settled = true;
             }
         }
-        self.before = if settled { state::ours(self.ours, &mut self.slots) } else { now };
+        self.before = if settled {
+            state::ours(self.ours, &mut self.slots)
+        } else {
+            now
+        };
         found
     }
 
@@ -186,7 +200,10 @@ impl<'a> Pair<'a> {
         let [offset, width, ..] = ran.call.args;
         let (here, peer) = (ran.answer.payload, ran.value);
         let unlike = (0..64).filter(|bit| (here ^ peer) >> bit & 1 != 0);
-        let by_bit = |bit: u32| Kind::Bit { bit, here: here >> bit & 1 != 0 };
+        let by_bit = |bit: u32| Kind::Bit {
+            bit,
+            here: here >> bit & 1 != 0,
+        };
         match ran.register {
             _ if here == peer => vec![],
             "CTLR" => unlike.map(by_bit).collect(),
@@ -203,7 +220,9 @@ impl<'a> Pair<'a> {
                 .map(|bit| {
                     let intid = (offset - bank("IGROUPR").start) * 8 + u64::from(bit);
                     match self.place(intid) {
-                        Some(_) => Kind::Group { here: here >> bit & 1 != 0 },
+                        Some(_) => Kind::Group {
+                            here: here >> bit & 1 != 0,
+                        },
                         None => by_bit(bit),
                     }
                 })
@@ -215,7 +234,11 @@ impl<'a> Pair<'a> {
                     u64::from(spi.map_or(0, |spi| spi.priority)) << (8 * at)
                 };
                 let known: u64 = (0..width).map(byte).sum();
-                vec![if here == known { Kind::WidthHere } else { Kind::Value }]
+                vec![if here == known {
+                    Kind::WidthHere
+                } else {
+                    Kind::Value
+                }]
             }
             _ => vec![Kind::Value],
         }
@@ -229,7 +252,8 @@ impl<'a> Pair<'a> {
     /// The route that an offset in IROUTER belongs to.
     fn route(&self, offset: u64) -> u64 {
         let intid = (offset - bank("IROUTER").start) / 8;
-        self.place(intid).map_or(0, |place| self.before[place].0.route)
+        self.place(intid)
+            .map_or(0, |place| self.before[place].0.route)
     }
 }
 
@@ -260,9 +284,21 @@ fn changes(ran: &Ran, intid: u64, before: &(Spi, bool), now: &Spi, shown: &Spi) 
     let (edge, active) = (before.edge, before.active);
     let here = now.pending;
     let any_core = 1 << 31;
-    let more = if now.route == shown.route & AFFINITY { shown.route & !AFFINITY } else { 0 };
+    let more = if now.route == shown.route & AFFINITY {
+        shown.route & !AFFINITY
+    } else {
+        0
+    };
     let known = [
-        (Kind::Pending { here, edge, line, active }, here != shown.pending),
+        (
+            Kind::Pending {
+                here,
+                edge,
+                line,
+                active,
+            },
+            here != shown.pending,
+        ),
         (Kind::AnyCore, more & any_core != 0),
         (Kind::Reserved, more & !any_core != 0),
     ];
@@ -270,7 +306,15 @@ fn changes(ran: &Ran, intid: u64, before: &(Spi, bool), now: &Spi, shown: &Spi) 
     let mut found: Vec<Found> = known.map(|(kind, _)| (register, kind)).collect();
     let pending = shown.pending;
     let route = if more == 0 { now.route } else { shown.route };
-    found.extend(others(register, &Spi { pending, route, ..*now }, shown));
+    found.extend(others(
+        register,
+        &Spi {
+            pending,
+            route,
+            ..*now
+        },
+        shown,
+    ));
     found
 }
 

@@ -157,8 +157,12 @@ pub fn entry(register: &str, kind: Kind) -> Option<&'static str> {
 /// or the first cell of a table's row.
 pub fn stands(page: &str, title: &str) -> bool {
     page.lines().any(|line| {
-        let heading = line.strip_prefix("### ").and_then(|rest| rest.split_once(". "));
-        let row = line.strip_prefix("| ").and_then(|rest| rest.split_once(" | "));
+        let heading = line
+            .strip_prefix("### ")
+            .and_then(|rest| rest.split_once(". "));
+        let row = line
+            .strip_prefix("| ")
+            .and_then(|rest| rest.split_once(" | "));
         heading.is_some_and(|(_, name)| name == title) || row.is_some_and(|(name, _)| name == title)
     })
 }

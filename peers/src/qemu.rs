@@ -60,7 +60,9 @@ impl Qemu {
     pub fn version() -> io::Result<String> {
         let output = Command::new(PROGRAM).arg("--version").output()?;
         let text = String::from_utf8_lossy(&output.stdout);
-        let words = text.split_whitespace().skip_while(|&word| word != "version");
+        let words = text
+            .split_whitespace()
+            .skip_while(|&word| word != "version");
         Ok(words.skip(1).take(1).collect())
     }
 
@@ -116,7 +118,8 @@ impl Peer for Qemu {
         for some in calls.chunks(500) {
             let requests: String = some.iter().map(|call| self.request(call)).collect();
             let sent = self.requests.write_all(requests.as_bytes());
-            sent.and_then(|()| self.requests.flush()).expect("QEMU listens");
+            sent.and_then(|()| self.requests.flush())
+                .expect("QEMU listens");
             for call in some {
                 let reply = next_line(&mut self.replies);
                 let rest = reply.trim_end().strip_prefix("OK");

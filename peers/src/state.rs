@@ -118,10 +118,22 @@ pub fn settle(machine: &mut dyn Machine, peer: &mut dyn Peer, intid: u64, shown:
         }
     };
     let route = shown.route & AFFINITY;
-    host(Op::SetEnabled, shown.enabled.into(), shown.enabled != now.enabled);
+    host(
+        Op::SetEnabled,
+        shown.enabled.into(),
+        shown.enabled != now.enabled,
+    );
     host(Op::SetTrigger, shown.edge.into(), shown.edge != now.edge);
-    host(Op::SetActive, shown.active.into(), shown.active != now.active);
-    host(Op::SetPriority, shown.priority.into(), shown.priority != now.priority);
+    host(
+        Op::SetActive,
+        shown.active.into(),
+        shown.active != now.active,
+    );
+    host(
+        Op::SetPriority,
+        shown.priority.into(),
+        shown.priority != now.priority,
+    );
     host(Op::SetRoute, route, route != now.route);
     host(Op::SetPending, shown.pending.into(), true);
     if route != shown.route {
