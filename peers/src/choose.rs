@@ -76,10 +76,14 @@ impl Choice {
         }
     }
 
-    /// Where a hot SPI is, in any bank.
+    /// Where a hot SPI is; one in eight in a bank that is not by INTID.
     fn at_hot(&mut self) -> Call {
-        let at = self.random.below(BANKS.len() as u64);
-        let bank = &BANKS[at as usize];
+        let by_intid = self.random.below(8) != 0;
+        let banks: Vec<&Bank> = BANKS
+            .iter()
+            .filter(|bank| by_intid == (bank.bits > 0))
+            .collect();
+        let bank = self.random.pick(&banks);
         let made_for = self.random.below(12) != 0;
         let width = self
             .random

@@ -13,6 +13,7 @@ use oracle::{driver::Oracle, machine::Machine};
 use crate::{compare::Pair, qemu::Qemu, report::Report, wrong::Wrong};
 
 mod choose;
+mod classify;
 mod compare;
 mod difference;
 mod peer;

@@ -4,11 +4,7 @@ use std::collections::{BTreeMap, BTreeSet};
 
 use oracle::calls::{Call, Op};
 
-use crate::{
-    choose,
-    compare::{Found, Pair},
-    difference,
-};
+use crate::{choose, classify::Found, compare::Pair, difference};
 
 /// A difference, in how many calls it showed, and the fewest calls that show it.
 pub struct Group {
@@ -33,7 +29,8 @@ impl Report {
                 break;
             }
             let calls = choose::sequence(seed, index, pair.count);
-            report.note(&calls, pair.run(&calls));
+            let (ran, found) = pair.run(&calls);
+            report.note(&calls[..ran], found);
         }
         for (found, group) in &mut report.groups {
             group.example = smallest(pair, *found, &group.example);
@@ -90,7 +87,7 @@ impl Report {
 
 /// Drops calls, then bits of what is written, as long as the difference stays.
 fn smallest(pair: &mut Pair, found: Found, example: &[Call]) -> Vec<Call> {
-    let mut shows = |calls: &[Call]| pair.run(calls).iter().any(|&(_, one)| one == found);
+    let mut shows = |calls: &[Call]| pair.run(calls).1.iter().any(|&(_, one)| one == found);
     let mut calls = example.to_vec();
     for at in (0..calls.len()).rev() {
         let mut fewer = calls.clone();
@@ -150,7 +147,8 @@ mod tests {
                 let [offset, width, ..] = call.args;
                 width != 4 || !crate::state::bank("IROUTER").holds(offset)
             });
-            report.note(&calls, pair.run(&calls));
+            let (ran, found) = pair.run(&calls);
+            report.note(&calls[..ran], found);
         }
         report
     }
