@@ -206,4 +206,29 @@ mod tests {
             assert!(!stands(page, other), "{other:?}");
         }
     }
+
+    #[test]
+    fn a_difference_is_explained_one_way_round_only() {
+        let banks = oracle::registers::BANKS.iter().map(|bank| bank.name);
+        let names = banks.chain([CREATION, END, RAISED, LOWERED, ELSEWHERE]);
+        for name in names {
+            let once = |kind: fn(u32, bool) -> Kind, case: u32| {
+                let both = [true, false].map(|here| entry(name, kind(case, here)).is_some());
+                assert_ne!(both, [true, true], "{name} {}", kind(case, true));
+            };
+            for bit in 0..64 {
+                once(|bit, here| Kind::Bit { bit, here }, bit);
+            }
+            once(|_, here| Kind::Group { here }, 0);
+            for case in 0..8 {
+                let pending = |case: u32, here| Kind::Pending {
+                    here,
+                    edge: case & 1 != 0,
+                    line: case & 2 != 0,
+                    active: case & 4 != 0,
+                };
+                once(pending, case);
+            }
+        }
+    }
 }
