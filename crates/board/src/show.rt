@@ -1,7 +1,7 @@
 // What a call answered, as words.
 use distributor::access::ReadAnswer;
 use distributor::access::WriteAnswer;
-use interrupt::error::Refusal;
+use identifiers::error::Refusal;
 use libc::STDOUT_FILENO;
 
 pub fn text(words: &[u8]) {

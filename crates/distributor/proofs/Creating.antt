@@ -12,7 +12,7 @@ use lib.ListN.{set, replicate}
 use Rattle.theory.specs.Bools.{both}
 use Rattle.theory.specs.Places.{tabulate}
 use Rattle.theory.specs.PlaceLaws.{tabulate-edit, tabulate-all}
-use Rattle.interrupt.specs.Answer.{Answer, done, refused, within, idAnswer}
+use Rattle.identifiers.specs.Answer.{Answer, done, refused, within, idAnswer}
 use Rattle.slot.specs.declared.slot.Slot.{Slot}
 use Rattle.slot.specs.Slots.{freshSpi}
 use Rattle.distributor.specs.Calls.{freshSlot}

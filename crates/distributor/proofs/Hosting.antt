@@ -11,10 +11,10 @@ use lib.Dec.{eqb}
 use lib.ListN.{getD, set}
 use Rattle.theory.specs.Places.{mapAt}
 use Rattle.theory.specs.MapLaws.{mapAt-edit, mapAt-still}
-use Rattle.interrupt.specs.Answer.{done, refused, toldRefusal}
-use Rattle.interrupt.specs.AnswerLaws.{told-refusal}
-use Rattle.interrupt.specs.declared.error.Refusal.{Refusal}
-use Rattle.interrupt.specs.declared.error.Refusal.the-variants.{InvalidIntId}
+use Rattle.identifiers.specs.Answer.{done, refused, toldRefusal}
+use Rattle.identifiers.specs.AnswerLaws.{told-refusal}
+use Rattle.identifiers.specs.declared.error.Refusal.{Refusal}
+use Rattle.identifiers.specs.declared.error.Refusal.the-variants.{InvalidIntId}
 use Rattle.slot.specs.declared.slot.Slot.{Slot}
 use Rattle.distributor.specs.declared.distributor.DistributorState.{DistributorState}
 use Rattle.slot.specs.declared.change.Change.{Change}

@@ -9,9 +9,9 @@ use lib.ListN.{length}
 use Rattle.theory.specs.Places.{mapAt, laid, passing}
 use Rattle.theory.specs.PlaceLaws.{passing-never}
 use Rattle.theory.specs.MapLaws.{mapAt-still}
-use Rattle.interrupt.specs.Answer.{Answer, done, refused}
-use Rattle.interrupt.specs.declared.error.Refusal.{Refusal}
-use Rattle.interrupt.specs.declared.error.Refusal.the-variants.{ShortList}
+use Rattle.identifiers.specs.Answer.{Answer, done, refused}
+use Rattle.identifiers.specs.declared.error.Refusal.{Refusal}
+use Rattle.identifiers.specs.declared.error.Refusal.the-variants.{ShortList}
 use Rattle.distributor.specs.declared.access.WriteAnswer.{WriteAnswer}
 use Rattle.distributor.specs.declared.access.Wrote.{Wrote}
 use Rattle.distributor.specs.declared.distributor.DistributorState.{DistributorState}

@@ -12,7 +12,7 @@ use lib.ListN.{getD, set}
 use lib.Seq.{set-getD}
 use Rattle.theory.specs.Places.{mapAt}
 use Rattle.theory.specs.MapLaws.{mapAt-edit, mapAt-same, getD-mapAt}
-use Rattle.interrupt.specs.Answer.{within}
+use Rattle.identifiers.specs.Answer.{within}
 use Rattle.interrupt.specs.Life.{deliverableIn}
 use Rattle.slot.specs.declared.slot.Slot.{Slot}
 use Rattle.registers.specs.declared.controller.ControllerConfig.{ControllerConfig}

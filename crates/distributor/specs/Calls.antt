@@ -5,12 +5,12 @@ use mathlib.Core.List.{List, [], _∷_}
 use lib.Dec.{leb, ltb, eqb}
 use lib.ListN.{length, getD}
 use Rattle.theory.specs.Places.{mapAt, tabulate, laid, passing}
-use Rattle.interrupt.specs.Answer.{Answer, done, refused, toldRefusal, rawOf}
-use Rattle.interrupt.specs.Affinity.{mpidrOf}
-use Rattle.interrupt.specs.State.{levelOf}
+use Rattle.identifiers.specs.Answer.{Answer, done, refused, toldRefusal, rawOf}
+use Rattle.identifiers.specs.Affinity.{mpidrOf}
+use Rattle.identifiers.specs.State.{levelOf}
 use Rattle.interrupt.specs.Life.{stateIn, held, routeIn, maskIn, deliverableIn}
-use Rattle.interrupt.specs.declared.types.GicAffinity.{GicAffinity}
-use Rattle.interrupt.specs.declared.error.Refusal.the-variants.{ShortList}
+use Rattle.identifiers.specs.declared.types.GicAffinity.{GicAffinity}
+use Rattle.identifiers.specs.declared.error.Refusal.the-variants.{ShortList}
 use Rattle.interrupt.specs.declared.interrupt.InterruptRecord.{InterruptRecord}
 use Rattle.interrupt.specs.declared.interrupt.Route.{Route}
 use Rattle.interrupt.specs.declared.interrupt.TargetMask.{TargetMask}

@@ -1,7 +1,7 @@
 -- Creation and the switch, as the code answers them.
 use mathlib.Core.Bool.{Bool}
 use mathlib.Core.List.{[], _∷_}
-use Rattle.interrupt.specs.Answer.{Answer, done, toldRefusal}
+use Rattle.identifiers.specs.Answer.{Answer, done, toldRefusal}
 use Rattle.distributor.specs.declared.create.CreateAnswer.{CreateAnswer}
 use Rattle.registers.specs.Banks.{bit}
 use Rattle.distributor.specs.Calls.{Reply, plain}

@@ -2,7 +2,7 @@
 use Prim.Native.Nat.{ℕ}
 use mathlib.Core.Path.{_≡_}
 use mathlib.Core.Bool.{cond}
-use Rattle.interrupt.specs.declared.error.Refusal.the-variants.{InvalidIntId}
+use Rattle.identifiers.specs.declared.error.Refusal.the-variants.{InvalidIntId}
 use Rattle.distributor.specs.declared.distributor.DistributorState.{DistributorState}
 use Rattle.slot.specs.declared.change.Change.{Change}
 use Rattle.slot.specs.declared.change.Change.the-variants.{Claim, ClaimTo, Release, Operate}

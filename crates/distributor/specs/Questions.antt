@@ -1,8 +1,8 @@
 -- What the host's questions answer, in the paper's terms.
 use mathlib.Core.Bool.{not}
 use mathlib.Core.List.{[], _∷_}
-use Rattle.interrupt.specs.Answer.{Answer, done, toldRefusal}
-use Rattle.interrupt.specs.State.{levelOf}
+use Rattle.identifiers.specs.Answer.{Answer, done, toldRefusal}
+use Rattle.identifiers.specs.State.{levelOf}
 use Rattle.distributor.specs.declared.questions.SpiNumber.{SpiNumber}
 use Rattle.distributor.specs.declared.questions.Flag.{Flag}
 use Rattle.distributor.specs.declared.questions.State.{State}

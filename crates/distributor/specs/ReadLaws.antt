@@ -6,8 +6,8 @@ use mathlib.Core.List.{List, [], _∷_}
 use native.Mathlib.Omega.{arith}
 use lib.Pow.{pow-mono, pow-pos}
 use lib.ListN.{getD}
-use Rattle.interrupt.specs.Answer.{done}
-use Rattle.interrupt.specs.AffinityLaws.{Bytes}
+use Rattle.identifiers.specs.Answer.{done}
+use Rattle.identifiers.specs.AffinityLaws.{Bytes}
 use Rattle.distributor.specs.declared.distributor.DistributorState.{DistributorState}
 use Rattle.registers.specs.declared.register.AccessWidth.{AccessWidth}
 use Rattle.registers.specs.declared.register.AccessWidth.the-variants.{Byte, Word, Dword, Qword}

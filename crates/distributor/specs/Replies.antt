@@ -9,8 +9,8 @@ use lib.Dec.{ltb}
 use lib.ListN.{length}
 use Rattle.theory.specs.Places.{laid, passing}
 use Rattle.theory.specs.PlaceLaws.{passing-few, passing-most}
-use Rattle.interrupt.specs.Answer.{done, refused, numberOf, carriedBy}
-use Rattle.interrupt.specs.declared.error.Refusal.the-variants.{InvalidWidth}
+use Rattle.identifiers.specs.Answer.{done, refused, numberOf, carriedBy}
+use Rattle.identifiers.specs.declared.error.Refusal.the-variants.{InvalidWidth}
 use Rattle.distributor.specs.declared.distributor.DistributorState.{DistributorState}
 use Rattle.registers.specs.declared.register.AccessWidth.{AccessWidth}
 use Rattle.registers.specs.declared.register.Bank.{Bank}

@@ -3,7 +3,7 @@ use Prim.Native.Nat.{ℕ, _+_}
 use mathlib.Core.Path.{_≡_}
 use mathlib.Core.List.{List, [], _∷_}
 use Rattle.theory.specs.Places.{mapAt}
-use Rattle.interrupt.specs.Answer.{Answer, done, toldRefusal}
+use Rattle.identifiers.specs.Answer.{Answer, done, toldRefusal}
 use Rattle.distributor.specs.declared.access.ReadAnswer.{ReadAnswer}
 use Rattle.distributor.specs.declared.access.WriteAnswer.{WriteAnswer}
 use Rattle.registers.specs.declared.register.Access.{Access}

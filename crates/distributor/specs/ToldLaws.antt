@@ -4,12 +4,12 @@ use Prim.Native.Nat.{ℕ}
 use mathlib.Core.Path.{_≡_, refl, sym, ap, _∙_}
 use mathlib.Core.Bool.{Bool, true, false, not}
 use mathlib.Core.List.{[], _∷_}
-use Rattle.interrupt.specs.AnswerLaws.{told-refusal}
-use Rattle.interrupt.specs.Affinity.{fromMpidr, mpidrOf}
-use Rattle.interrupt.specs.AffinityLaws.{Bytes, fromMpidr-mpidr}
-use Rattle.interrupt.specs.State.{levelOf}
-use Rattle.interrupt.specs.declared.types.TriggerMode.{TriggerMode}
-use Rattle.interrupt.specs.declared.types.TriggerMode.the-variants.{Edge, Level}
+use Rattle.identifiers.specs.AnswerLaws.{told-refusal}
+use Rattle.identifiers.specs.Affinity.{fromMpidr, mpidrOf}
+use Rattle.identifiers.specs.AffinityLaws.{Bytes, fromMpidr-mpidr}
+use Rattle.identifiers.specs.State.{levelOf}
+use Rattle.identifiers.specs.declared.types.TriggerMode.{TriggerMode}
+use Rattle.identifiers.specs.declared.types.TriggerMode.the-variants.{Edge, Level}
 use Rattle.interrupt.specs.declared.interrupt.Route.{Route}
 use Rattle.registers.specs.Banks.{bit}
 use Rattle.slot.specs.Slots.{stateNumber}

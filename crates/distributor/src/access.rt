@@ -3,7 +3,7 @@ use crate::distributor::DistributorState;
 use crate::distributor::list_deliverable;
 use crate::distributor::read_fields;
 use crate::distributor::write_fields;
-use interrupt::error::Refusal;
+use identifiers::error::Refusal;
 use registers::bank::Beyond;
 use registers::bank::first_beyond;
 use registers::bank::read_beyond;

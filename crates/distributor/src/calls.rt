@@ -1,11 +1,11 @@
 // The host's public calls on one SPI, a line each over `change`.
 use crate::distributor::DistributorState;
 use crate::host::Changed;
-use interrupt::types::GicAffinity;
-use interrupt::types::InterruptState;
-use interrupt::types::Priority;
-use interrupt::types::SpiId;
-use interrupt::types::TriggerMode;
+use identifiers::types::GicAffinity;
+use identifiers::types::InterruptState;
+use identifiers::types::Priority;
+use identifiers::types::SpiId;
+use identifiers::types::TriggerMode;
 use operation::operation::Operation;
 use slot::change::Change;
 ghost use Rattle.operation.specs.declared.operation.Operation.the-variants.{SetEnabled, SetPending, SetActive, SetState, ClearDeliveryState, MarkInflight, SynchronizeInflight, CancelInflight, FinishInflight, DeactivateInflight, SetPriority, SetTrigger, SetRoute, ClearRoute, SetCpuTargetMask, SetLevel, Pulse, Complete};

@@ -1,8 +1,8 @@
 // Creation, and the host's calls on the switch.
 use crate::distributor::DistributorState;
-use interrupt::error::Refusal;
-use interrupt::types::SpiId;
-use interrupt::types::SpiIdAnswer;
+use identifiers::error::Refusal;
+use identifiers::types::SpiId;
+use identifiers::types::SpiIdAnswer;
 use registers::controller::ControllerConfig;
 use slot::slot::Slot;
 ghost use mathlib.Core.Path.{_≡_};

@@ -1,14 +1,14 @@
 // The host's calls on one SPI. A change is named, done at the SPI's place by one function, and every public call is a line over that.
 use crate::distributor::DistributorState;
-use interrupt::error::Refusal;
+use identifiers::error::Refusal;
+use identifiers::types::SpiId;
 use interrupt::interrupt::InterruptRecord;
-use interrupt::types::SpiId;
 use registers::place::Place;
 use registers::place::PlaceAnswer;
 use slot::change::Change;
 use slot::change::ChangeAnswer;
 ghost use mathlib.Core.Path.{_≡_};
-ghost use Rattle.interrupt.specs.Answer.{done};
+ghost use Rattle.identifiers.specs.Answer.{done};
 ghost use Rattle.slot.specs.Changes.{changed};
 ghost use Rattle.distributor.specs.Host.{callOf, interruptAnswer, Changes};
 

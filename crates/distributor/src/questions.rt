@@ -1,13 +1,13 @@
 // The host's questions about one SPI, each over `interrupt`.
 use crate::distributor::DistributorState;
 use crate::host::InterruptAnswer;
-use interrupt::error::Refusal;
+use identifiers::error::Refusal;
+use identifiers::types::InterruptState;
+use identifiers::types::Priority;
+use identifiers::types::SpiId;
+use identifiers::types::TriggerMode;
 use interrupt::interrupt::Route;
 use interrupt::interrupt::TargetMask;
-use interrupt::types::InterruptState;
-use interrupt::types::Priority;
-use interrupt::types::SpiId;
-use interrupt::types::TriggerMode;
 ghost use mathlib.Core.Path.{_≡_};
 ghost use Rattle.distributor.specs.Calls.{ask, intid, enabled, pending, active, state, hasDeliveryState, priority, trigger, route, cpuTargetMask, deliverable, maskValue, plain, reply};
 ghost use Rattle.distributor.specs.Questions.{toldNumber, toldFlag, toldState, toldPriority, toldTrigger, toldRoute, toldMask};

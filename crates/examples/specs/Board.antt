@@ -5,8 +5,8 @@ use mathlib.Core.Bool.{true, false}
 use mathlib.Core.List.{List, [], _∷_}
 use lib.ListN.{replicate}
 use lib.Count.{leadingZeros}
-use Rattle.interrupt.specs.Answer.{Answer, done, refused}
-use Rattle.interrupt.specs.Affinity.{affinity}
+use Rattle.identifiers.specs.Answer.{Answer, done, refused}
+use Rattle.identifiers.specs.Affinity.{affinity}
 use Rattle.interrupt.specs.Life.{fresh, routeIn, deliverableIn, enabledTo, pendingTo, priorityTo, triggerTo, routeTo, unrouted, levelTo, raised, pulsed}
 use Rattle.operation.specs.declared.operation.Operation.the-variants.{SetEnabled, SetLevel, Pulse}
 use Rattle.registers.specs.declared.controller.ControllerConfig.{ControllerConfig}

@@ -4,10 +4,10 @@ use mathlib.Core.Path.{_≡_, refl}
 use mathlib.Core.Bool.{true}
 use mathlib.Core.List.{List, [], _∷_}
 use Rattle.theory.specs.Runs.{run}
-use Rattle.interrupt.specs.Answer.{Answer, done, refused}
-use Rattle.interrupt.specs.Affinity.{affinity}
+use Rattle.identifiers.specs.Answer.{Answer, done, refused}
+use Rattle.identifiers.specs.Affinity.{affinity}
 use Rattle.interrupt.specs.Life.{fresh, routeIn, maskIn, deliverableIn, enabledTo, triggerTo, routeTo, unrouted, priorityTo, maskTo}
-use Rattle.interrupt.specs.declared.types.TriggerMode.the-variants.{Edge}
+use Rattle.identifiers.specs.declared.types.TriggerMode.the-variants.{Edge}
 use Rattle.operation.specs.declared.operation.Operation.the-variants.{SetEnabled, SetTrigger, SetCpuTargetMask}
 use Rattle.distributor.specs.declared.distributor.DistributorState.{DistributorState}
 use Rattle.registers.specs.declared.register.AccessWidth.the-variants.{Byte, Dword}

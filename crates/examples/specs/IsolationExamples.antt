@@ -9,7 +9,7 @@ use lib.Dec.{eqb}
 use lib.ListN.{getD, replicate}
 use Rattle.theory.specs.Bools.{both}
 use Rattle.theory.specs.MapLaws.{relates-mapAt}
-use Rattle.interrupt.specs.Answer.{done}
+use Rattle.identifiers.specs.Answer.{done}
 use Rattle.interrupt.specs.Life.{fresh, deliverableIn, enabledTo, pulsed, routeTo}
 use Rattle.operation.specs.declared.operation.Operation.the-variants.{SetEnabled, Pulse}
 use Rattle.registers.specs.declared.controller.ControllerConfig.{ControllerConfig}

@@ -13,7 +13,7 @@ use Rattle.theory.specs.PlaceLaws.{everywhere}
 use Rattle.theory.specs.Elements.{at-tabulate}
 use Rattle.theory.specs.Runs.{run, answers, Share, Matching}
 use Rattle.theory.specs.Matchings.{swap, reversal}
-use Rattle.interrupt.specs.Answer.{done, refused, within}
+use Rattle.identifiers.specs.Answer.{done, refused, within}
 use Rattle.interrupt.specs.Life.{fresh, deliverableIn, enabledTo, routeTo}
 use Rattle.operation.specs.declared.operation.Operation.{Operation}
 use Rattle.operation.specs.declared.operation.Operation.the-variants.{SetEnabled}

@@ -1,6 +1,1 @@
-pub mod Answer
-pub mod Affinity
-pub mod State
 pub mod Life
-pub mod AnswerLaws
-pub mod AffinityLaws

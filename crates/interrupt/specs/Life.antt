@@ -1,17 +1,17 @@
 -- One interrupt's record: what each operation makes of it.
 use Prim.Native.Nat.{ℕ}
 use mathlib.Core.Bool.{Bool, true, false, not, _&&_, _||_, cond}
-use Rattle.interrupt.specs.declared.types.IntId.{IntId}
-use Rattle.interrupt.specs.declared.types.GicAffinity.{GicAffinity}
-use Rattle.interrupt.specs.declared.types.Priority.{Priority}
-use Rattle.interrupt.specs.declared.types.TriggerMode.{TriggerMode}
-use Rattle.interrupt.specs.declared.types.InterruptState.{InterruptState}
+use Rattle.identifiers.specs.declared.types.IntId.{IntId}
+use Rattle.identifiers.specs.declared.types.GicAffinity.{GicAffinity}
+use Rattle.identifiers.specs.declared.types.Priority.{Priority}
+use Rattle.identifiers.specs.declared.types.TriggerMode.{TriggerMode}
+use Rattle.identifiers.specs.declared.types.InterruptState.{InterruptState}
 use Rattle.interrupt.specs.declared.interrupt.InterruptRecord.{InterruptRecord}
 use Rattle.interrupt.specs.declared.interrupt.Route.{Route}
 use Rattle.interrupt.specs.declared.interrupt.TargetMask.{TargetMask}
-use Rattle.interrupt.specs.Affinity.{affinity}
-use Rattle.interrupt.specs.State.{levelOf, pendingOf, activeOf, stateOf}
-use Rattle.interrupt.specs.Answer.{sgi}
+use Rattle.identifiers.specs.Affinity.{affinity}
+use Rattle.identifiers.specs.State.{levelOf, pendingOf, activeOf, stateOf}
+use Rattle.identifiers.specs.Answer.{sgi}
 
 -- a new interrupt: enabled where it is an SGI, its priority 0x80, with no route and no target mask; nothing has happened to it
 unfoldable pub fresh : IntId → TriggerMode → InterruptRecord

@@ -1,11 +1,11 @@
 // One interrupt's record: what is known of it, and all that can happen to it. Each operation takes the record and hands back
 // the new one. A record that has no route holds the affinity 0.0.0.0, and one that has no target mask the mask 0, so that two
 // records that mean the same are equal.
-use crate::types::GicAffinity;
-use crate::types::IntId;
-use crate::types::InterruptState;
-use crate::types::Priority;
-use crate::types::TriggerMode;
+use identifiers::types::GicAffinity;
+use identifiers::types::IntId;
+use identifiers::types::InterruptState;
+use identifiers::types::Priority;
+use identifiers::types::TriggerMode;
 ghost use mathlib.Core.Path.{_≡_};
 ghost use mathlib.Core.Bool.{false};
 ghost use Rattle.interrupt.specs.Life.{fresh, enabledTo, pendingTo, activeTo, stateTo, stateIn, held, cleared, taken, merged, synchronized, cancelled, deactivated, priorityTo, triggerTo, routeIn, routeTo, unrouted, maskIn, maskTo, levelTo, pulsed, completed, deliverableIn, levelHigh};

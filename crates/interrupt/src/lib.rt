@@ -1,4 +1,2 @@
-// Interrupt identifiers, and one interrupt's record with all its operations: what the Distributor stands on.
-pub mod error;
+// One interrupt's record with all its operations: what the Distributor stands on.
 pub mod interrupt;
-pub mod types;

@@ -1,10 +1,10 @@
 // A level SPI that a core is handling: its line falls, and a pulse comes. The pulse came in flight, so it is kept as one more
 // delivery, and the interrupt is pending again once the core has finished.
+use identifiers::types::IntId;
+use identifiers::types::IntIdAnswer;
+use identifiers::types::InterruptState;
+use identifiers::types::TriggerMode;
 use interrupt::interrupt::InterruptRecord;
-use interrupt::types::IntId;
-use interrupt::types::IntIdAnswer;
-use interrupt::types::InterruptState;
-use interrupt::types::TriggerMode;
 use lent::lent::pulse_in_place;
 use lent::lent::pulse_lent;
 use lent::lent::set_level_in_place;

@@ -2,19 +2,19 @@
 use Prim.Native.Nat.{ℕ}
 use mathlib.Core.Path.{_≡_, refl}
 use mathlib.Core.Bool.{Bool, true, false, not, _&&_, _||_, or-true}
-use Rattle.interrupt.specs.declared.types.IntId.{IntId}
-use Rattle.interrupt.specs.declared.types.GicAffinity.{GicAffinity}
-use Rattle.interrupt.specs.declared.types.Priority.{Priority}
-use Rattle.interrupt.specs.declared.types.TriggerMode.{TriggerMode}
-use Rattle.interrupt.specs.declared.types.InterruptState.{InterruptState}
+use Rattle.identifiers.specs.declared.types.IntId.{IntId}
+use Rattle.identifiers.specs.declared.types.GicAffinity.{GicAffinity}
+use Rattle.identifiers.specs.declared.types.Priority.{Priority}
+use Rattle.identifiers.specs.declared.types.TriggerMode.{TriggerMode}
+use Rattle.identifiers.specs.declared.types.InterruptState.{InterruptState}
 use Rattle.interrupt.specs.declared.interrupt.InterruptRecord.{InterruptRecord}
 use Rattle.interrupt.specs.declared.interrupt.Route.{Route}
 use Rattle.interrupt.specs.declared.interrupt.TargetMask.{TargetMask}
 use Rattle.operation.specs.declared.operation.Operation.{Operation}
 use Rattle.operation.specs.declared.operation.Operation.the-variants.{SetEnabled, SetPending, SetActive, SetState, ClearDeliveryState, MarkInflight, SynchronizeInflight, CancelInflight, FinishInflight, DeactivateInflight, SetPriority, SetTrigger, SetRoute, ClearRoute, SetCpuTargetMask, SetLevel, Pulse, Complete}
-use Rattle.interrupt.specs.Affinity.{affinity}
-use Rattle.interrupt.specs.State.{levelOf, pendingOf, activeOf, stateOf}
-use Rattle.interrupt.specs.Answer.{sgi}
+use Rattle.identifiers.specs.Affinity.{affinity}
+use Rattle.identifiers.specs.State.{levelOf, pendingOf, activeOf, stateOf}
+use Rattle.identifiers.specs.Answer.{sgi}
 use Rattle.interrupt.specs.Life.{redelivery, line, fresh, stateIn, held, merged, routeIn, maskIn, deliverableIn, enabledTo, pendingTo, activeTo, stateTo, cleared, taken, joined, synchronized, landed, cancelled, deactivated, levelHigh, priorityTo, triggerTo, routeTo, unrouted, maskTo, levelTo, raised, lowered, pulsed, completed}
 use Rattle.operation.specs.Operation.{applied}
 

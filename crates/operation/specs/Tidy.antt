@@ -3,15 +3,15 @@
 use Prim.Native.Nat.{ℕ}
 use mathlib.Core.Path.{_≡_, refl, sym, subst⁻¹, _∙_}
 use mathlib.Core.Bool.{Bool, true, false, _&&_, cond, true≢false}
-use Rattle.interrupt.specs.declared.types.IntId.{IntId}
-use Rattle.interrupt.specs.declared.types.GicAffinity.{GicAffinity}
-use Rattle.interrupt.specs.declared.types.TriggerMode.{TriggerMode}
+use Rattle.identifiers.specs.declared.types.IntId.{IntId}
+use Rattle.identifiers.specs.declared.types.GicAffinity.{GicAffinity}
+use Rattle.identifiers.specs.declared.types.TriggerMode.{TriggerMode}
 use Rattle.interrupt.specs.declared.interrupt.InterruptRecord.{InterruptRecord}
 use Rattle.interrupt.specs.declared.interrupt.Route.{Route}
 use Rattle.interrupt.specs.declared.interrupt.TargetMask.{TargetMask}
 use Rattle.operation.specs.declared.operation.Operation.{Operation}
 use Rattle.operation.specs.declared.operation.Operation.the-variants.{SetEnabled, SetPending, SetActive, SetState, ClearDeliveryState, MarkInflight, SynchronizeInflight, CancelInflight, FinishInflight, DeactivateInflight, SetPriority, SetTrigger, SetRoute, ClearRoute, SetCpuTargetMask, SetLevel, Pulse, Complete}
-use Rattle.interrupt.specs.Affinity.{affinity}
+use Rattle.identifiers.specs.Affinity.{affinity}
 use Rattle.interrupt.specs.Life.{fresh, routeIn, maskIn}
 use Rattle.operation.specs.Operation.{applied}
 use Rattle.operation.specs.Laws.{Settings, settingsOf, settingsAfter, flagsOf, settings-after, fresh-settings, record-path}

@@ -1,9 +1,9 @@
 // The operations that change a record, as values: a caller names one, and `apply` does it.
+use identifiers::types::GicAffinity;
+use identifiers::types::InterruptState;
+use identifiers::types::Priority;
+use identifiers::types::TriggerMode;
 use interrupt::interrupt::InterruptRecord;
-use interrupt::types::GicAffinity;
-use interrupt::types::InterruptState;
-use interrupt::types::Priority;
-use interrupt::types::TriggerMode;
 ghost use mathlib.Core.Path.{_≡_};
 ghost use Rattle.operation.specs.Operation.{applied};
 

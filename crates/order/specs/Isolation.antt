@@ -4,8 +4,8 @@ use mathlib.Core.Path.{_≡_, refl, sym, ap, _∙_}
 use mathlib.Core.Bool.{Bool, true, false, not, _&&_, _||_, cond, true≢false}
 use mathlib.Core.List.{List, [], _∷_}
 use Rattle.theory.specs.MapLaws.{relates-mapAt}
-use Rattle.interrupt.specs.Answer.{done}
-use Rattle.interrupt.specs.Affinity.{fromMpidr}
+use Rattle.identifiers.specs.Answer.{done}
+use Rattle.identifiers.specs.Affinity.{fromMpidr}
 use Rattle.operation.specs.declared.operation.Operation.the-variants.{SetRoute}
 use Rattle.registers.specs.declared.controller.ControllerConfig.{ControllerConfig}
 use Rattle.slot.specs.declared.slot.Slot.{Slot}

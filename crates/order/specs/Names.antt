@@ -2,7 +2,7 @@
 use Prim.Native.Nat.{ℕ, _+_}
 use mathlib.Core.Bool.{Bool, true, false, _&&_}
 use lib.Dec.{eqb}
-use Rattle.interrupt.specs.Answer.{within}
+use Rattle.identifiers.specs.Answer.{within}
 use Rattle.registers.specs.declared.controller.ControllerConfig.{ControllerConfig}
 use Rattle.registers.specs.declared.register.Register.the-variants.{Identification, Ctlr, Typer, Iidr, Fields, Reserved}
 use Rattle.registers.specs.declared.register.Access.{Access}

@@ -10,7 +10,7 @@ use lib.Dec.{eqb}
 use lib.ListN.{getD, getElem?}
 use Rattle.theory.specs.Bools.{both}
 use Rattle.theory.specs.Elements.{at-all, at-mapAt, at-holds}
-use Rattle.interrupt.specs.Answer.{Answer, done, refused}
+use Rattle.identifiers.specs.Answer.{Answer, done, refused}
 use Rattle.slot.specs.declared.slot.Slot.{Slot}
 use Rattle.distributor.specs.declared.distributor.DistributorState.{DistributorState}
 use Rattle.registers.specs.declared.register.Register.the-variants.{Identification, Ctlr, Typer, Iidr, Fields, Reserved}

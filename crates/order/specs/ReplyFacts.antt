@@ -8,7 +8,7 @@ use lib.Dec.{leb, eqb}
 use Rattle.theory.specs.Bools.{both}
 use Rattle.theory.specs.Places.{passing}
 use Rattle.theory.specs.PlaceLaws.{passing-agree}
-use Rattle.interrupt.specs.Answer.{Answer, done, refused, within}
+use Rattle.identifiers.specs.Answer.{Answer, done, refused, within}
 use Rattle.interrupt.specs.Life.{deliverableIn}
 use Rattle.registers.specs.declared.controller.ControllerConfig.{ControllerConfig}
 use Rattle.slot.specs.declared.slot.Slot.{Slot}

@@ -10,7 +10,7 @@ use lib.Dec.{leb, ltb}
 use lib.ListN.{length, getD, drop}
 use lib.Seq.{drop-cons}
 use Rattle.theory.specs.Bools.{both}
-use Rattle.interrupt.specs.Answer.{within}
+use Rattle.identifiers.specs.Answer.{within}
 use Rattle.registers.specs.declared.register.AccessWidth.{AccessWidth}
 use Rattle.registers.specs.declared.register.Direction.{Direction}
 use Rattle.registers.specs.declared.register.Row.{Row}
@@ -19,7 +19,7 @@ use Rattle.registers.specs.declared.register.Kind.{Kind}
 use Rattle.registers.specs.declared.register.Bank.{Bank}
 use Rattle.registers.specs.declared.register.Register.{Register}
 use Rattle.registers.specs.declared.register.Register.the-variants.{Fields, Reserved}
-use Rattle.interrupt.specs.declared.error.Refusal.the-variants.{InvalidAccess, InvalidWidth}
+use Rattle.identifiers.specs.declared.error.Refusal.the-variants.{InvalidAccess, InvalidWidth}
 use Rattle.registers.specs.Registers.{Bounded}
 use Rattle.registers.proofs.Widths.{bytes-range}
 use Rattle.registers.specs.Registers.{bytesOf, bitsOf, takes, widthsOf, map, noRow, legal, holds, registerAt, rowAccess, lookup, decode}

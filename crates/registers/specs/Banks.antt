@@ -6,10 +6,10 @@ use mathlib.Core.List.{List, [], _∷_}
 use mir.Val.{boolByte}
 use lib.Dec.{leb, eqb}
 use Rattle.theory.specs.Places.{passing}
-use Rattle.interrupt.specs.Answer.{within}
-use Rattle.interrupt.specs.Affinity.{mpidrOf}
+use Rattle.identifiers.specs.Answer.{within}
+use Rattle.identifiers.specs.Affinity.{mpidrOf}
 use Rattle.interrupt.specs.Life.{routeIn}
-use Rattle.interrupt.specs.declared.types.TriggerMode.{TriggerMode}
+use Rattle.identifiers.specs.declared.types.TriggerMode.{TriggerMode}
 use Rattle.interrupt.specs.declared.interrupt.InterruptRecord.{InterruptRecord}
 use Rattle.interrupt.specs.declared.interrupt.Route.{Route}
 use Rattle.registers.specs.declared.controller.ControllerConfig.{ControllerConfig}

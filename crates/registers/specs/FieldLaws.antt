@@ -11,12 +11,12 @@ use lib.Pow.{pow-add, areBytes}
 use borrow.Author.Tests.{ltb-true}
 use Rattle.theory.specs.Bools.{both}
 use lib.ListN.{length, getD}
-use Rattle.interrupt.specs.AffinityLaws.{Bytes}
-use Rattle.interrupt.specs.declared.types.TriggerMode.{TriggerMode}
+use Rattle.identifiers.specs.AffinityLaws.{Bytes}
+use Rattle.identifiers.specs.declared.types.TriggerMode.{TriggerMode}
 use Rattle.interrupt.specs.Life.{routeIn}
 use Rattle.interrupt.specs.declared.interrupt.InterruptRecord.{InterruptRecord}
 use Rattle.interrupt.specs.declared.interrupt.Route.{Route}
-use Rattle.interrupt.specs.declared.error.Refusal.the-variants.{InvalidAccess, InvalidWidth}
+use Rattle.identifiers.specs.declared.error.Refusal.the-variants.{InvalidAccess, InvalidWidth}
 use Rattle.registers.specs.declared.register.AccessWidth.{AccessWidth}
 use Rattle.registers.specs.declared.register.AccessWidth.the-variants.{Byte, Word, Dword, Qword}
 use Rattle.registers.specs.declared.register.Bank.{Bank}

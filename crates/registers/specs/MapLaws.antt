@@ -10,7 +10,7 @@ use mir.Val.{boolByte}
 use lib.Dec.{leb}
 use lib.ListN.{getD}
 use Rattle.theory.specs.Bools.{both, either, refuted}
-use Rattle.interrupt.specs.Answer.{within}
+use Rattle.identifiers.specs.Answer.{within}
 use Rattle.theory.specs.PlaceLaws.{everywhere}
 use Rattle.registers.specs.declared.register.AccessWidth.the-variants.{Byte, Dword, Qword}
 use Rattle.registers.specs.declared.register.Bank.{Bank}

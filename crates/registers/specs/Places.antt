@@ -2,7 +2,7 @@
 use Prim.Native.Nat.{ℕ, _-_, min}
 use mathlib.Core.Bool.{cond}
 use mathlib.Core.List.{[], _∷_}
-use Rattle.interrupt.specs.Answer.{Answer, done, refused, toldRefusal}
+use Rattle.identifiers.specs.Answer.{Answer, done, refused, toldRefusal}
 use Rattle.registers.specs.declared.place.PlaceAnswer.{PlaceAnswer}
 use Rattle.registers.specs.declared.place.PlaceAnswer.the-variants.{At, Refused}
 use Rattle.registers.specs.Banks.{inTable}

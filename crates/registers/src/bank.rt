@@ -1,8 +1,8 @@
 // What each bank shows of an SPI, and what a written field does to it. No table is in here.
 use crate::register::Bank;
+use identifiers::types::TriggerMode;
 use interrupt::interrupt::InterruptRecord;
 use interrupt::interrupt::Route;
-use interrupt::types::TriggerMode;
 ghost use mathlib.Core.Path.{_≡_};
 ghost use mathlib.Core.Bool.{not, _&&_};
 ghost use Prim.Native.Nat.{_+_, _-_, _*_, _/_, _%_, _^_, _≤_, _<_};

@@ -1,5 +1,5 @@
 // Places in the table. Only the makers below make one, and an INTID is none.
-use interrupt::error::Refusal;
+use identifiers::error::Refusal;
 ghost use mathlib.Core.Path.{_≡_};
 ghost use mathlib.Core.Bool.{cond};
 ghost use Prim.Native.Nat.{_-_, _≤_, _<_};

@@ -1,6 +1,6 @@
 // The registers of the Distributor's frame, by Arm's names, and how an access to the frame is decoded. The map is the same, row by
 // row, as the one in specs/Registers.antt.
-use interrupt::error::Refusal;
+use identifiers::error::Refusal;
 ghost use mathlib.Core.Path.{_≡_};
 ghost use Prim.Native.Nat.{_+_, _*_, _/_, _≤_, _<_};
 ghost use lib.ListN.{getD};

@@ -1,6 +1,6 @@
 // What is seen of an answer.
 use crate::number::wide_word;
-use interrupt::error::Refusal;
+use identifiers::error::Refusal;
 
 // Kind 0 and the value, or a refusal's number and what it carries; and how many candidates are listed.
 pub struct Answer {

@@ -1,6 +1,6 @@
 // The host's calls that change one SPI, by number.
-use crate::answer;
 use crate::answer::Answer;
+use crate::answer;
 use crate::number::has;
 use crate::number::low_byte;
 use crate::number::of_state;
@@ -9,9 +9,9 @@ use crate::number::trigger;
 use crate::run::Ran;
 use distributor::distributor::DistributorState;
 use distributor::host::Changed;
-use interrupt::types::GicAffinity;
-use interrupt::types::Priority;
-use interrupt::types::SpiId;
+use identifiers::types::GicAffinity;
+use identifiers::types::Priority;
+use identifiers::types::SpiId;
 use slot::change::ChangeAnswer;
 
 pub fn change(d: DistributorState, spi: SpiId, op: u64, b: u64) -> Ran {

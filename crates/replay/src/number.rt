@@ -1,6 +1,6 @@
 // Between numbers of a list and the values that they stand for.
-use interrupt::types::InterruptState;
-use interrupt::types::TriggerMode;
+use identifiers::types::InterruptState;
+use identifiers::types::TriggerMode;
 
 pub fn low_byte(n: u64) -> u8 {
     (n % 0x100) as u8

@@ -3,11 +3,11 @@
 use crate::number::bit;
 use crate::number::of_trigger;
 use crate::number::wide;
+use identifiers::types::GicAffinity;
+use identifiers::types::InterruptState;
 use interrupt::interrupt::InterruptRecord;
 use interrupt::interrupt::Route;
 use interrupt::interrupt::TargetMask;
-use interrupt::types::GicAffinity;
-use interrupt::types::InterruptState;
 use slot::slot::Slot;
 ghost use mathlib.Core.Path.{_≡_};
 

@@ -1,6 +1,6 @@
 // The host's questions about one SPI, by number.
-use crate::answer;
 use crate::answer::Answer;
+use crate::answer;
 use crate::number::bit;
 use crate::number::of_state;
 use crate::number::of_trigger;
@@ -14,8 +14,8 @@ use distributor::questions::RouteOf;
 use distributor::questions::SpiNumber;
 use distributor::questions::State;
 use distributor::questions::TriggerOf;
+use identifiers::types::SpiId;
 use interrupt::interrupt::Route;
-use interrupt::types::SpiId;
 
 pub fn ask(d: DistributorState, spi: SpiId, op: u64) -> Answer {
     match op {

@@ -1,9 +1,9 @@
 // A call, run on a Distributor.
-use crate::answer;
 use crate::answer::Answer;
-use crate::call;
+use crate::answer;
 use crate::call::Call;
 use crate::call::Family;
+use crate::call;
 use crate::change;
 use crate::create;
 use crate::guest;
@@ -13,8 +13,8 @@ use crate::number::has;
 use crate::number::low_word;
 use crate::question;
 use distributor::distributor::DistributorState;
-use interrupt::types::SpiId;
-use interrupt::types::SpiIdAnswer;
+use identifiers::types::SpiId;
+use identifiers::types::SpiIdAnswer;
 
 // The Distributor after a call, and what the call answered.
 pub struct Ran {

@@ -4,11 +4,11 @@ use mathlib.Core.Bool.{Bool, false, _&&_, cond}
 use mathlib.Core.List.{List}
 use lib.ListN.{getD}
 use Rattle.theory.specs.Places.{passing}
-use Rattle.interrupt.specs.Answer.{within}
-use Rattle.interrupt.specs.Affinity.{affinity}
+use Rattle.identifiers.specs.Answer.{within}
+use Rattle.identifiers.specs.Affinity.{affinity}
 use Rattle.interrupt.specs.Life.{deliverableIn}
-use Rattle.interrupt.specs.declared.types.IntId.{IntId}
-use Rattle.interrupt.specs.declared.types.TriggerMode.{TriggerMode}
+use Rattle.identifiers.specs.declared.types.IntId.{IntId}
+use Rattle.identifiers.specs.declared.types.TriggerMode.{TriggerMode}
 use Rattle.registers.specs.declared.controller.ControllerConfig.{ControllerConfig}
 use Rattle.registers.specs.declared.register.Bank.{Bank}
 use Rattle.registers.specs.Banks.{inTable, shown, acts, lists, field, packed}

@@ -4,7 +4,7 @@ use mathlib.Core.Path.{_≡_}
 use mathlib.Core.Bool.{true, _&&_}
 use mathlib.Core.List.{List}
 use Rattle.theory.specs.Bools.{both}
-use Rattle.interrupt.specs.Answer.{within}
+use Rattle.identifiers.specs.Answer.{within}
 use Rattle.registers.specs.declared.controller.ControllerConfig.{ControllerConfig}
 use Rattle.registers.specs.declared.register.Bank.{Bank}
 use Rattle.registers.specs.Banks.{inTable, lists}

@@ -3,9 +3,9 @@ use Prim.Native.Nat.{ℕ}
 use mathlib.Core.Path.{_≡_, refl, sym, ap, _∙_}
 use mathlib.Core.Bool.{cond}
 use lib.Dec.{eqb}
-use Rattle.interrupt.specs.AnswerLaws.{told-refusal}
-use Rattle.interrupt.specs.declared.types.InterruptState.{InterruptState}
-use Rattle.interrupt.specs.declared.types.InterruptState.the-variants.{Inactive, Pending, Active, ActivePending}
+use Rattle.identifiers.specs.AnswerLaws.{told-refusal}
+use Rattle.identifiers.specs.declared.types.InterruptState.{InterruptState}
+use Rattle.identifiers.specs.declared.types.InterruptState.the-variants.{Inactive, Pending, Active, ActivePending}
 use Rattle.slot.specs.declared.change.ChangeAnswer.{ChangeAnswer}
 use Rattle.slot.specs.Slots.{stateNumber}
 use Rattle.slot.specs.Changes.{toldChange}

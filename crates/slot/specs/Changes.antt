@@ -1,6 +1,6 @@
 -- The host's changes of one SPI as the code names them, and what they answer in the paper's terms.
 use mathlib.Core.List.{[], _∷_}
-use Rattle.interrupt.specs.Answer.{Answer, done, toldRefusal}
+use Rattle.identifiers.specs.Answer.{Answer, done, toldRefusal}
 use Rattle.slot.specs.declared.slot.Slot.{Slot}
 use Rattle.slot.specs.declared.change.Change.{Change}
 use Rattle.slot.specs.declared.change.Change.the-variants.{Claim, ClaimTo, Release, Operate}

@@ -2,15 +2,15 @@
 use Prim.Native.Nat.{ℕ, _%_}
 use mathlib.Core.Bool.{Bool, true, false, not, _&&_, _||_, cond}
 use mathlib.Core.List.{List, [], _∷_}
-use Rattle.interrupt.specs.Answer.{Answer, done, refused}
-use Rattle.interrupt.specs.Affinity.{fromMpidr}
+use Rattle.identifiers.specs.Answer.{Answer, done, refused}
+use Rattle.identifiers.specs.Affinity.{fromMpidr}
 use Rattle.interrupt.specs.Life.{fresh, merged, deliverableIn}
 use Rattle.operation.specs.Operation.{applied}
-use Rattle.interrupt.specs.declared.types.IntId.{IntId}
-use Rattle.interrupt.specs.declared.types.GicAffinity.{GicAffinity}
-use Rattle.interrupt.specs.declared.types.TriggerMode.{TriggerMode}
-use Rattle.interrupt.specs.declared.types.InterruptState.{InterruptState}
-use Rattle.interrupt.specs.declared.types.InterruptState.the-variants.{Inactive, Pending, Active, ActivePending}
+use Rattle.identifiers.specs.declared.types.IntId.{IntId}
+use Rattle.identifiers.specs.declared.types.GicAffinity.{GicAffinity}
+use Rattle.identifiers.specs.declared.types.TriggerMode.{TriggerMode}
+use Rattle.identifiers.specs.declared.types.InterruptState.{InterruptState}
+use Rattle.identifiers.specs.declared.types.InterruptState.the-variants.{Inactive, Pending, Active, ActivePending}
 use Rattle.interrupt.specs.declared.interrupt.InterruptRecord.{InterruptRecord}
 use Rattle.operation.specs.declared.operation.Operation.{Operation}
 use Rattle.operation.specs.declared.operation.Operation.the-variants.{SetEnabled, SetPending, SetActive, SetState, ClearDeliveryState, MarkInflight, SynchronizeInflight, CancelInflight, FinishInflight, DeactivateInflight, SetPriority, SetTrigger, SetRoute, ClearRoute, SetCpuTargetMask, SetLevel, Pulse, Complete}

@@ -1,16 +1,16 @@
 // What the host does to an SPI, named, and what it answers.
 use crate::slot::Slot;
-use interrupt::error::Refusal;
+use identifiers::error::Refusal;
+use identifiers::types::GicAffinity;
+use identifiers::types::InterruptState;
+use identifiers::types::TriggerMode;
 use interrupt::interrupt::InterruptRecord;
-use interrupt::types::GicAffinity;
-use interrupt::types::InterruptState;
-use interrupt::types::TriggerMode;
 use operation::operation::Operation;
 use operation::operation::apply;
 ghost use mathlib.Core.Path.{_≡_};
 ghost use mathlib.Core.Bool.{cond};
 ghost use mathlib.Core.List.{[]};
-ghost use Rattle.interrupt.specs.Answer.{done, refused};
+ghost use Rattle.identifiers.specs.Answer.{done, refused};
 ghost use Rattle.slot.specs.Slots.{setsMask, operated, claimed, claimedTo, released, operationValues};
 ghost use Rattle.slot.specs.Changes.{changed, changeAnswer, toldChange};
 

@@ -1,10 +1,10 @@
 // One SPI: what a bank shows of it, and what a written field does to it. No table is in here.
+use identifiers::types::GicAffinity;
+use identifiers::types::IntId;
+use identifiers::types::Priority;
+use identifiers::types::SpiId;
+use identifiers::types::TriggerMode;
 use interrupt::interrupt::InterruptRecord;
-use interrupt::types::GicAffinity;
-use interrupt::types::IntId;
-use interrupt::types::Priority;
-use interrupt::types::SpiId;
-use interrupt::types::TriggerMode;
 use operation::operation::Operation;
 use operation::operation::apply;
 use registers::bank::trigger_in;

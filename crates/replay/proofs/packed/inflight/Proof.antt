@@ -3,7 +3,7 @@ use mathlib.Core.Path.{_≡_, _∙_}
 use mathlib.Core.Bool.{false, or-false}
 use borrow.Author.Needs.{needs}
 use Rattle.interrupt.specs.declared.interrupt.InterruptRecord.{InterruptRecord}
-use Rattle.interrupt.specs.declared.types.InterruptState.the-variants.{Inactive}
+use Rattle.identifiers.specs.declared.types.InterruptState.the-variants.{Inactive}
 use Rattle.interrupt.specs.Life.{held, pendingTo, stateTo}
 use Rattle.replay.proofs.packed.inflight.Statement.{statement}
 use Rattle.replay.proofs.packed.inflight.Tie as tie

@@ -2,7 +2,7 @@
 use mathlib.Core.Path.{_≡_, _∙_, refl}
 use borrow.Author.Needs.{needs}
 use Rattle.interrupt.specs.declared.interrupt.InterruptRecord.{InterruptRecord}
-use Rattle.interrupt.specs.declared.types.InterruptState.the-variants.{Inactive}
+use Rattle.identifiers.specs.declared.types.InterruptState.the-variants.{Inactive}
 use Rattle.interrupt.specs.Life.{cancelled, landed, stateTo}
 use Rattle.replay.proofs.packed.redelivery.Statement.{statement}
 use Rattle.replay.proofs.packed.redelivery.Tie as tie

@@ -1,7 +1,7 @@
 -- `operation_answer` meets its contract: an arm for each operation.
 use mathlib.Core.Path.{ap}
 use mathlib.Core.List.{[], _∷_}
-use Rattle.interrupt.specs.Answer.{done}
+use Rattle.identifiers.specs.Answer.{done}
 use Rattle.interrupt.specs.declared.interrupt.Synchronized.{Synchronized}
 use Rattle.slot.specs.Slots.{stateNumber}
 use borrow.Author.Needs.{needs}

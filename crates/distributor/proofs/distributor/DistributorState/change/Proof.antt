@@ -7,7 +7,7 @@ use Rattle.slot.specs.declared.change.ChangeAnswer.{ChangeAnswer}
 use Rattle.distributor.specs.Calls.{size}
 use Rattle.distributor.specs.Loops.{withSlots}
 use Rattle.registers.specs.Places.{toldPlace, placeAnswer}
-use Rattle.interrupt.specs.Answer.{toldRefusal}
+use Rattle.identifiers.specs.Answer.{toldRefusal}
 use Rattle.distributor.proofs.Hosting.{at-place, off-place, changed-at, changed-off}
 use borrow.Author.Needs.{needs}
 use Rattle.distributor.proofs.distributor.DistributorState.change.Statement.{statement}

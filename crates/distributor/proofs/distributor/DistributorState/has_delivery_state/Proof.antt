@@ -1,7 +1,7 @@
 use mathlib.Core.Path.{sym, ap, _∙_}
 use mathlib.Core.Bool.{Bool}
 use mathlib.Core.List.{[], _∷_}
-use Rattle.interrupt.specs.Answer.{done}
+use Rattle.identifiers.specs.Answer.{done}
 use Rattle.registers.specs.Banks.{bit}
 use Rattle.distributor.specs.Calls.{hasDeliveryState, plain}
 use Rattle.distributor.proofs.Hosting.{found, missed}

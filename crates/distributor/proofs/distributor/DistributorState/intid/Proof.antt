@@ -1,7 +1,7 @@
 use mathlib.Core.Path.{sym, ap, _∙_}
 use Prim.Native.Nat.{ℕ}
 use mathlib.Core.List.{[], _∷_}
-use Rattle.interrupt.specs.Answer.{done, rawOf}
+use Rattle.identifiers.specs.Answer.{done, rawOf}
 use Rattle.distributor.specs.Calls.{intid, plain}
 use Rattle.distributor.proofs.Hosting.{found, missed}
 use borrow.Author.Needs.{needs}

@@ -6,7 +6,7 @@ use borrow.Author.Needs.{needs}
 use lib.ListN.{set}
 use Rattle.distributor.specs.declared.distributor.DistributorState.{DistributorState}
 use Rattle.theory.specs.Places.{tabulate}
-use Rattle.interrupt.specs.Answer.{toldSpi}
+use Rattle.identifiers.specs.Answer.{toldSpi}
 use Rattle.distributor.specs.Calls.{created, freshSlot}
 use Rattle.distributor.specs.Loops.{withSlots}
 use Rattle.distributor.proofs.Creating.{one-made, is-spi, no-spi, made-all, made-none}

@@ -1,7 +1,7 @@
 use mathlib.Core.Path.{sym, ap, _∙_}
-use Rattle.interrupt.specs.declared.types.Priority.{Priority}
+use Rattle.identifiers.specs.declared.types.Priority.{Priority}
 use mathlib.Core.List.{[], _∷_}
-use Rattle.interrupt.specs.Answer.{done}
+use Rattle.identifiers.specs.Answer.{done}
 use Rattle.distributor.specs.Calls.{plain}
 use Rattle.distributor.specs.Calls.{priority}
 use Rattle.distributor.proofs.Hosting.{found, missed}

@@ -2,7 +2,7 @@
 use Prim.Native.Nat.{ℕ}
 use mathlib.Core.Path.{_≡_, sym, ap, _∙_}
 use mathlib.Core.List.{[], _∷_}
-use Rattle.interrupt.specs.Answer.{done}
+use Rattle.identifiers.specs.Answer.{done}
 use Rattle.registers.specs.Banks.{readBeyond}
 use Rattle.slot.specs.BankRule.{bankValue}
 use Rattle.distributor.specs.Calls.{size, plain}

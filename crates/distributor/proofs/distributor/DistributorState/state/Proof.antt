@@ -1,7 +1,7 @@
 use mathlib.Core.Path.{sym, ap, _∙_}
-use Rattle.interrupt.specs.declared.types.InterruptState.{InterruptState}
+use Rattle.identifiers.specs.declared.types.InterruptState.{InterruptState}
 use mathlib.Core.List.{[], _∷_}
-use Rattle.interrupt.specs.Answer.{done}
+use Rattle.identifiers.specs.Answer.{done}
 use Rattle.slot.specs.Slots.{stateNumber}
 use Rattle.distributor.specs.Calls.{plain}
 use Rattle.distributor.specs.Calls.{state}

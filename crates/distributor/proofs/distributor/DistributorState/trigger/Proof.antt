@@ -1,9 +1,9 @@
 use mathlib.Core.Path.{sym, ap, _∙_}
-use Rattle.interrupt.specs.declared.types.TriggerMode.{TriggerMode}
+use Rattle.identifiers.specs.declared.types.TriggerMode.{TriggerMode}
 use mathlib.Core.Bool.{not}
 use mathlib.Core.List.{[], _∷_}
-use Rattle.interrupt.specs.State.{levelOf}
-use Rattle.interrupt.specs.Answer.{done}
+use Rattle.identifiers.specs.State.{levelOf}
+use Rattle.identifiers.specs.Answer.{done}
 use Rattle.registers.specs.Banks.{bit}
 use Rattle.distributor.specs.Calls.{trigger, plain}
 use Rattle.distributor.proofs.Hosting.{found, missed}

@@ -2,7 +2,7 @@
 use mathlib.Core.Path.{sym, _∙_}
 use native.Mathlib.Omega.{arith}
 use denote.Ref.{now}
-use Rattle.interrupt.specs.declared.error.Refusal.the-variants.{ShortList}
+use Rattle.identifiers.specs.declared.error.Refusal.the-variants.{ShortList}
 use Rattle.registers.specs.declared.register.Direction.the-variants.{Writing}
 use Rattle.distributor.proofs.Replying.{refused-writes, access-short, access-long, written-so}
 use Rattle.registers.proofs.Rows.{decode-bounded}

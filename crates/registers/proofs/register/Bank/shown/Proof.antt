@@ -2,7 +2,7 @@
 use mathlib.Core.Path.{refl, ap, _∙_}
 use native.Mathlib.Omega.{arith}
 use mir.Val.{boolByte}
-use Rattle.interrupt.specs.declared.types.Priority.{Priority}
+use Rattle.identifiers.specs.declared.types.Priority.{Priority}
 use Rattle.registers.specs.Banks.{routed, edgeField}
 use Rattle.registers.specs.FieldLaws.{bit-fits, edge-fits}
 use borrow.Author.Needs.{needs}

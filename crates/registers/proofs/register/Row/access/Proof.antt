@@ -2,7 +2,7 @@
 use Prim.Native.Nat.{ℕ, _-_}
 use mathlib.Core.Path.{_≡_, sym, ap, _∙_}
 use mathlib.Core.Bool.{Bool, true, false}
-use Rattle.interrupt.specs.declared.error.Refusal.the-variants.{InvalidWidth}
+use Rattle.identifiers.specs.declared.error.Refusal.the-variants.{InvalidWidth}
 use Rattle.registers.specs.declared.register.AccessWidth.{AccessWidth}
 use Rattle.registers.specs.declared.register.Direction.{Direction}
 use Rattle.registers.specs.declared.register.Widths.{Widths}

@@ -2,8 +2,8 @@
 use Prim.Native.Nat.{ℕ}
 use mathlib.Core.Path.{ap, _∙_}
 use mathlib.Core.Bool.{cond}
-use Rattle.interrupt.specs.declared.types.GicAffinity.{GicAffinity}
-use Rattle.interrupt.specs.declared.types.TriggerMode.{TriggerMode}
+use Rattle.identifiers.specs.declared.types.GicAffinity.{GicAffinity}
+use Rattle.identifiers.specs.declared.types.TriggerMode.{TriggerMode}
 use Rattle.operation.specs.declared.operation.Operation.the-variants.{SetPriority, SetTrigger, SetRoute}
 use Rattle.slot.specs.Slots.{through}
 use borrow.Author.Needs.{needs}

@@ -1,7 +1,7 @@
 use borrow.Author.Tests.{lt-ltb, le-ltb}
 use lib.Dec.{leb·zero}
-use Rattle.interrupt.proofs.types.SgiId.new.Statement.{statement}
-use Rattle.interrupt.proofs.types.SgiId.new.Tie as tie
+use Rattle.identifiers.proofs.types.SgiId.new.Statement.{statement}
+use Rattle.identifiers.proofs.types.SgiId.new.Tie as tie
 
 returns : tie.Need-returns
 returns c = simp (leb·zero, lt-ltb _ _ (c .if1 .taken))

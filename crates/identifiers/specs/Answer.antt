@@ -3,14 +3,14 @@ use Prim.Native.Nat.{ℕ}
 use mathlib.Core.Bool.{Bool, true, false, _&&_, cond}
 use mathlib.Core.List.{List, [], _∷_}
 use lib.Dec.{leb, ltb}
-use Rattle.interrupt.specs.declared.error.Refusal.{Refusal}
-use Rattle.interrupt.specs.declared.error.Refusal.the-variants.{InvalidIntId, ResourceConflict, InvalidAccess, InvalidWidth, ShortList}
-use Rattle.interrupt.specs.declared.types.SgiIdAnswer.{SgiIdAnswer}
-use Rattle.interrupt.specs.declared.types.PpiIdAnswer.{PpiIdAnswer}
-use Rattle.interrupt.specs.declared.types.SpiIdAnswer.{SpiIdAnswer}
-use Rattle.interrupt.specs.declared.types.LpiIdAnswer.{LpiIdAnswer}
-use Rattle.interrupt.specs.declared.types.IntId.{IntId}
-use Rattle.interrupt.specs.declared.types.IntIdAnswer.{IntIdAnswer}
+use Rattle.identifiers.specs.declared.error.Refusal.{Refusal}
+use Rattle.identifiers.specs.declared.error.Refusal.the-variants.{InvalidIntId, ResourceConflict, InvalidAccess, InvalidWidth, ShortList}
+use Rattle.identifiers.specs.declared.types.SgiIdAnswer.{SgiIdAnswer}
+use Rattle.identifiers.specs.declared.types.PpiIdAnswer.{PpiIdAnswer}
+use Rattle.identifiers.specs.declared.types.SpiIdAnswer.{SpiIdAnswer}
+use Rattle.identifiers.specs.declared.types.LpiIdAnswer.{LpiIdAnswer}
+use Rattle.identifiers.specs.declared.types.IntId.{IntId}
+use Rattle.identifiers.specs.declared.types.IntIdAnswer.{IntIdAnswer}
 
 -- a call is done, with the values that it answers; or it is refused, with the refusal's number and what the refusal carries
 pub data Answer : Type 0 where

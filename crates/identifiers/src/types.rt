@@ -1,9 +1,9 @@
 // Bounded identifiers, affinity, priority, trigger and state. Only a maker makes an identifier, so none is out of its range.
 use crate::error::Refusal;
 ghost use mathlib.Core.Path.{_≡_};
-ghost use Rattle.interrupt.specs.Answer.{idAnswer, intIdAnswer, toldSgi, toldPpi, toldSpi, toldLpi, toldIntId, rawOf, sgi};
-ghost use Rattle.interrupt.specs.Affinity.{affinity, fromMpidr, mpidrOf};
-ghost use Rattle.interrupt.specs.State.{pendingOf, activeOf, stateOf, levelOf};
+ghost use Rattle.identifiers.specs.Answer.{idAnswer, intIdAnswer, toldSgi, toldPpi, toldSpi, toldLpi, toldIntId, rawOf, sgi};
+ghost use Rattle.identifiers.specs.Affinity.{affinity, fromMpidr, mpidrOf};
+ghost use Rattle.identifiers.specs.State.{pendingOf, activeOf, stateOf, levelOf};
 
 // The first INTID of an LPI.
 pub const LPI_INTID_BASE: u32 = 8192;

@@ -1,6 +1,6 @@
 -- A core's affinity, and its place in MPIDR and IROUTER.
 use Prim.Native.Nat.{ℕ, _+_, _*_, _/_, _%_, _^_}
-use Rattle.interrupt.specs.declared.types.GicAffinity.{GicAffinity}
+use Rattle.identifiers.specs.declared.types.GicAffinity.{GicAffinity}
 
 abbrev pub affinity : ℕ → ℕ → ℕ → ℕ → GicAffinity
 affinity a3 a2 a1 a0 = record { aff3 = a3; aff2 = a2; aff1 = a1; aff0 = a0 }

@@ -1,5 +1,5 @@
-use Rattle.interrupt.proofs.types.PpiId.new.Statement.{statement}
-use Rattle.interrupt.proofs.types.PpiId.new.Tie as tie
+use Rattle.identifiers.proofs.types.SpiId.new.Statement.{statement}
+use Rattle.identifiers.proofs.types.SpiId.new.Tie as tie
 
 returns : tie.Need-returns
 returns c = simp (c .if1 .taken)

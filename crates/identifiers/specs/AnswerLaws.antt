@@ -6,15 +6,15 @@ use mathlib.Core.Bool.{cond}
 use mathlib.Core.List.{List, [], _∷_}
 use lib.Dec.{eqb}
 use lib.ListN.{getD}
-use Rattle.interrupt.specs.declared.error.Refusal.{Refusal}
-use Rattle.interrupt.specs.declared.error.Refusal.the-variants.{InvalidIntId, ResourceConflict, InvalidAccess, InvalidWidth, ShortList}
-use Rattle.interrupt.specs.declared.types.SgiIdAnswer.{SgiIdAnswer}
-use Rattle.interrupt.specs.declared.types.PpiIdAnswer.{PpiIdAnswer}
-use Rattle.interrupt.specs.declared.types.SpiIdAnswer.{SpiIdAnswer}
-use Rattle.interrupt.specs.declared.types.LpiIdAnswer.{LpiIdAnswer}
-use Rattle.interrupt.specs.declared.types.IntId.{IntId}
-use Rattle.interrupt.specs.declared.types.IntIdAnswer.{IntIdAnswer}
-use Rattle.interrupt.specs.Answer.{Answer, done, refused, kindOf, rawOf, toldRefusal, toldSgi, toldPpi, toldSpi, toldLpi, toldIntId}
+use Rattle.identifiers.specs.declared.error.Refusal.{Refusal}
+use Rattle.identifiers.specs.declared.error.Refusal.the-variants.{InvalidIntId, ResourceConflict, InvalidAccess, InvalidWidth, ShortList}
+use Rattle.identifiers.specs.declared.types.SgiIdAnswer.{SgiIdAnswer}
+use Rattle.identifiers.specs.declared.types.PpiIdAnswer.{PpiIdAnswer}
+use Rattle.identifiers.specs.declared.types.SpiIdAnswer.{SpiIdAnswer}
+use Rattle.identifiers.specs.declared.types.LpiIdAnswer.{LpiIdAnswer}
+use Rattle.identifiers.specs.declared.types.IntId.{IntId}
+use Rattle.identifiers.specs.declared.types.IntIdAnswer.{IntIdAnswer}
+use Rattle.identifiers.specs.Answer.{Answer, done, refused, kindOf, rawOf, toldRefusal, toldSgi, toldPpi, toldSpi, toldLpi, toldIntId}
 
 -- the refusal that is told by a number and what it carries
 refusalOf : Answer → Refusal

@@ -1,6 +1,6 @@
 use borrow.Author.Needs.{needs}
-use Rattle.interrupt.proofs.types.GicAffinity.from_mpidr.Statement.{statement}
-use Rattle.interrupt.proofs.types.GicAffinity.from_mpidr.Tie as tie
+use Rattle.identifiers.proofs.types.GicAffinity.from_mpidr.Statement.{statement}
+use Rattle.identifiers.proofs.types.GicAffinity.from_mpidr.Tie as tie
 
 cast-new : tie.Need-cast-new
 cast-new c = search needs

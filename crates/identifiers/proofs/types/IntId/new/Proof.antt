@@ -7,9 +7,9 @@ use native.Mathlib.Omega.{arith}
 use borrow.Author.Needs.{needs}
 use borrow.Author.Tests.{le-leb, lt-leb, le-ltb, lt-ltb}
 use lib.Dec.{leb·zero}
-use Rattle.interrupt.specs.Answer.{Answer, done, refused, within, intIdAnswer}
-use Rattle.interrupt.proofs.types.IntId.new.Statement.{statement}
-use Rattle.interrupt.proofs.types.IntId.new.Tie as tie
+use Rattle.identifiers.specs.Answer.{Answer, done, refused, within, intIdAnswer}
+use Rattle.identifiers.proofs.types.IntId.new.Statement.{statement}
+use Rattle.identifiers.proofs.types.IntId.new.Tie as tie
 
 sgi : (n : ℕ) → n < 16 → done (0 ∷ n ∷ []) ≡ intIdAnswer n
 sgi n h = simp (leb·zero, lt-ltb n 16 h)

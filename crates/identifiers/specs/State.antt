@@ -1,9 +1,9 @@
 -- Trigger modes, and the four states that pending and active make.
 use mathlib.Core.Bool.{Bool, true, false}
-use Rattle.interrupt.specs.declared.types.TriggerMode.{TriggerMode}
-use Rattle.interrupt.specs.declared.types.TriggerMode.the-variants.{Edge, Level}
-use Rattle.interrupt.specs.declared.types.InterruptState.{InterruptState}
-use Rattle.interrupt.specs.declared.types.InterruptState.the-variants.{Inactive, Pending, Active, ActivePending}
+use Rattle.identifiers.specs.declared.types.TriggerMode.{TriggerMode}
+use Rattle.identifiers.specs.declared.types.TriggerMode.the-variants.{Edge, Level}
+use Rattle.identifiers.specs.declared.types.InterruptState.{InterruptState}
+use Rattle.identifiers.specs.declared.types.InterruptState.the-variants.{Inactive, Pending, Active, ActivePending}
 
 abbrev pub levelOf : TriggerMode → Bool
 levelOf Edge = false

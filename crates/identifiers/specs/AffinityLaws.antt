@@ -2,8 +2,8 @@
 use Prim.Native.Nat.{ℕ, _+_, _*_, _/_, _%_, _^_, _<_}
 use mathlib.Core.Path.{_≡_}
 use native.Mathlib.Omega.{arith}
-use Rattle.interrupt.specs.declared.types.GicAffinity.{GicAffinity}
-use Rattle.interrupt.specs.Affinity.{affinity, byteAt, fromMpidr, mpidrOf}
+use Rattle.identifiers.specs.declared.types.GicAffinity.{GicAffinity}
+use Rattle.identifiers.specs.Affinity.{affinity, byteAt, fromMpidr, mpidrOf}
 
 -- four bytes, as every GicAffinity of the code is
 pub record Bytes (a : GicAffinity) : Type 0 where

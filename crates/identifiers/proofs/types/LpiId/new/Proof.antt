@@ -1,6 +1,6 @@
 use lib.Dec.{leb·suc-suc}
-use Rattle.interrupt.proofs.types.LpiId.new.Statement.{statement}
-use Rattle.interrupt.proofs.types.LpiId.new.Tie as tie
+use Rattle.identifiers.proofs.types.LpiId.new.Statement.{statement}
+use Rattle.identifiers.proofs.types.LpiId.new.Tie as tie
 
 returns : tie.Need-returns
 returns c = rw (leb·suc-suc (c .before .args .raw) 0xffffff) (simp (c .if1 .taken))

@@ -1,0 +1,3 @@
+// Interrupt identifiers, affinity, priority, states, and the refusals: what a record stands on.
+pub mod error;
+pub mod types;
