@@ -19,9 +19,9 @@ use Rattle.slot.specs.declared.slot.Slot.{Slot}
 use Rattle.distributor.specs.declared.distributor.DistributorState.{DistributorState}
 use Rattle.slot.specs.declared.change.Change.{Change}
 use Rattle.slot.specs.declared.change.Change.the-variants.{Claim, ClaimTo, Release, Operate}
-use Rattle.registers.specs.Banks.{inTable}
+use Rattle.bank.specs.Banks.{inTable}
 use Rattle.slot.specs.BankRule.{noSlot, slotOf}
-use Rattle.registers.specs.BankLaws.{in-range}
+use Rattle.bank.specs.BankLaws.{in-range}
 use Rattle.interrupt.specs.declared.interrupt.InterruptRecord.{InterruptRecord}
 use Rattle.distributor.specs.declared.host.InterruptAnswer.{InterruptAnswer}
 use Rattle.distributor.specs.Calls.{Question, ask, asked, only, size, plain, onSpi, reply, step}

@@ -9,12 +9,12 @@ use lib.ListN.{getD}
 use lib.Pow.{pow-mono}
 use Rattle.slot.specs.declared.slot.Slot.{Slot}
 use Rattle.registers.specs.declared.controller.ControllerConfig.{ControllerConfig}
-use Rattle.registers.specs.declared.register.Bank.{Bank}
-use Rattle.registers.specs.Registers.{bitsOf}
-use Rattle.registers.specs.Banks.{explicit, inTable, shown, packed}
+use Rattle.bank.specs.declared.bank.Bank.{Bank}
+use Rattle.bank.specs.Banks.{bitsOf, inTable, shown, packed}
+use Rattle.registers.specs.Ownership.{explicit}
 use Rattle.slot.specs.Slots.{owned}
 use Rattle.slot.specs.BankRule.{slotOf, noSlot, showing}
-use Rattle.registers.specs.FieldLaws.{digit-fits, pow-pow}
+use Rattle.bank.specs.FieldLaws.{digit-fits, pow-pow}
 
 -- the fields that are read fit 64 bits
 pub room : (b : Bank) (k m : ℕ) → bitsOf b * m ≤ 64 → k ≤ m → (2 ^ bitsOf b) ^ k ≤ 2 ^ 64

@@ -21,7 +21,7 @@ use Rattle.registers.specs.declared.register.Access.{Access}
 use Rattle.registers.specs.declared.register.Access.the-variants.{Refused}
 use Rattle.registers.specs.Registers.{decode}
 use Rattle.distributor.specs.Calls.{Reply, unless, size, write, writeAccess, writeReply, listingUnless, reply, step}
-use Rattle.registers.specs.Banks.{lowest}
+use Rattle.bank.specs.Banks.{lowest}
 use Rattle.distributor.specs.Loops.{withSlots}
 use Rattle.distributor.specs.Told.{toldWrite, writtenState, Writes}
 

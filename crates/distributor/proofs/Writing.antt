@@ -16,16 +16,16 @@ use Rattle.identifiers.specs.Answer.{within}
 use Rattle.interrupt.specs.Life.{deliverableIn}
 use Rattle.slot.specs.declared.slot.Slot.{Slot}
 use Rattle.registers.specs.declared.controller.ControllerConfig.{ControllerConfig}
-use Rattle.registers.specs.declared.register.Bank.{Bank}
-use Rattle.registers.specs.Registers.{bitsOf}
-use Rattle.registers.specs.Banks.{explicit, inTable, acts, lists, field}
+use Rattle.bank.specs.declared.bank.Bank.{Bank}
+use Rattle.bank.specs.Banks.{bitsOf, inTable, acts, lists, field}
+use Rattle.registers.specs.Ownership.{explicit}
 use Rattle.slot.specs.Slots.{owned, written, touches, turned, listed}
 use Rattle.slot.specs.BankRule.{slotOf, noSlot, reaches, bankSlot, candidate}
 use Rattle.distributor.specs.declared.distributor.DistributorState.{DistributorState}
 use Rattle.distributor.specs.Calls.{size}
 use Rattle.distributor.specs.Loops.{withSlots}
-use Rattle.registers.specs.BankLaws.{in-range}
-use Rattle.registers.proofs.Digits.{field-at}
+use Rattle.bank.specs.BankLaws.{in-range}
+use Rattle.bank.proofs.Digits.{field-at}
 
 -- the first j INTIDs from lo on
 within-next : (lo j i : ℕ) → i ≢ lo + j → within lo (lo + j) i ≡ within lo (lo + (j + 1)) i

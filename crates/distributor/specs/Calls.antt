@@ -1,5 +1,5 @@
 -- Every call on a Distributor: what it does to each slot and to the switch, and what it answers.
-use Prim.Native.Nat.{ℕ, _+_, _-_, _/_, _%_, min}
+use Prim.Native.Nat.{ℕ, _+_, _/_, _%_}
 use mathlib.Core.Bool.{Bool, false, not, _&&_, cond}
 use mathlib.Core.List.{List, [], _∷_}
 use lib.Dec.{leb, ltb, eqb}
@@ -24,7 +24,8 @@ use Rattle.registers.specs.declared.register.Access.{Access}
 use Rattle.registers.specs.declared.register.Access.the-variants.{To, Refused}
 use Rattle.registers.specs.declared.register.Direction.the-variants.{Reading, Writing}
 use Rattle.registers.specs.Registers.{decode}
-use Rattle.registers.specs.Banks.{bit, inTable, readBeyond, writeBeyond}
+use Rattle.bank.specs.Banks.{bit, inTable}
+use Rattle.registers.specs.Ownership.{readBeyond, writeBeyond}
 use Rattle.slot.specs.BankRule.{slotOf, bankValue, bankSlot, bankCandidates}
 use Rattle.registers.specs.Identity.{componentId, iidrValue, ctlrValue, typerValue}
 use Rattle.slot.specs.Slots.{claimAnswer, claimed, claimedTo, freshSpi, operated, operationValues, released, stateNumber}

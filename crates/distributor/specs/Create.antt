@@ -3,7 +3,7 @@ use mathlib.Core.Bool.{Bool}
 use mathlib.Core.List.{[], _∷_}
 use Rattle.identifiers.specs.Answer.{Answer, done, toldRefusal}
 use Rattle.distributor.specs.declared.create.CreateAnswer.{CreateAnswer}
-use Rattle.registers.specs.Banks.{bit}
+use Rattle.bank.specs.Banks.{bit}
 use Rattle.distributor.specs.Calls.{Reply, plain}
 
 abbrev pub toldCreate : CreateAnswer → Answer

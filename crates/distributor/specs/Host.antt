@@ -8,7 +8,7 @@ use Rattle.slot.specs.declared.change.Change.{Change}
 use Rattle.slot.specs.declared.change.Change.the-variants.{Claim, ClaimTo, Release, Operate}
 use Rattle.distributor.specs.declared.host.Changed.{Changed}
 use Rattle.distributor.specs.declared.host.InterruptAnswer.{InterruptAnswer}
-use Rattle.registers.specs.Banks.{inTable}
+use Rattle.bank.specs.Banks.{inTable}
 use Rattle.slot.specs.BankRule.{slotOf}
 use Rattle.distributor.specs.Calls.{Call, claimSoftware, claimPhysical, release, operate, size, plain, reply, step}
 use Rattle.slot.specs.Changes.{toldChange}

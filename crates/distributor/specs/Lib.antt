@@ -7,3 +7,4 @@ pub mod Questions
 pub mod ReadLaws
 pub mod Replies
 pub mod ToldLaws
+pub mod WriteLaws

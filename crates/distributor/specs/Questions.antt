@@ -10,7 +10,7 @@ use Rattle.distributor.specs.declared.questions.PriorityOf.{PriorityOf}
 use Rattle.distributor.specs.declared.questions.TriggerOf.{TriggerOf}
 use Rattle.distributor.specs.declared.questions.RouteOf.{RouteOf}
 use Rattle.distributor.specs.declared.questions.MaskOf.{MaskOf}
-use Rattle.registers.specs.Banks.{bit}
+use Rattle.bank.specs.Banks.{bit}
 use Rattle.slot.specs.Slots.{stateNumber}
 use Rattle.distributor.specs.Calls.{routeValues}
 

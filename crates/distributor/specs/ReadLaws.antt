@@ -11,18 +11,20 @@ use Rattle.identifiers.specs.AffinityLaws.{Bytes}
 use Rattle.distributor.specs.declared.distributor.DistributorState.{DistributorState}
 use Rattle.registers.specs.declared.register.AccessWidth.{AccessWidth}
 use Rattle.registers.specs.declared.register.AccessWidth.the-variants.{Byte, Word, Dword, Qword}
-use Rattle.registers.specs.declared.register.Bank.{Bank}
+use Rattle.bank.specs.declared.bank.Bank.{Bank}
 use Rattle.registers.specs.declared.register.Register.the-variants.{Identification, Ctlr, Typer, Iidr, Fields, Reserved}
 use Rattle.registers.specs.declared.register.Access.{Access}
 use Rattle.registers.specs.declared.register.Access.the-variants.{To, Refused}
 use Rattle.registers.specs.declared.register.Direction.the-variants.{Reading}
-use Rattle.registers.specs.Registers.{bytesOf, bitsOf, decode}
-use Rattle.registers.specs.Banks.{inTable, shown, readBeyond}
+use Rattle.bank.specs.Banks.{bitsOf, inTable, shown}
+use Rattle.registers.specs.Registers.{bytesOf, decode}
+use Rattle.registers.specs.Ownership.{readBeyond}
 use Rattle.slot.specs.Slots.{owned}
 use Rattle.slot.specs.BankRule.{slotOf, showing, bankValue}
 use Rattle.registers.specs.Identity.{componentId, ctlrValue, typerValue}
 use Rattle.distributor.specs.Calls.{read, size, unless, reply, readReply}
-use Rattle.registers.specs.FieldLaws.{bit-fits, decode-sound, id-fits, packed-fits, pow-pow, shown-fits}
+use Rattle.bank.specs.FieldLaws.{bit-fits, packed-fits, pow-pow, shown-fits}
+use Rattle.registers.specs.WidthLaws.{decode-sound, id-fits}
 
 -- what the code's types say of a state: a priority and an affinity level are bytes
 pub record Typed (d : DistributorState) : Type 0 where

@@ -13,13 +13,13 @@ use Rattle.identifiers.specs.Answer.{done, refused, numberOf, carriedBy}
 use Rattle.identifiers.specs.declared.error.Refusal.the-variants.{InvalidWidth}
 use Rattle.distributor.specs.declared.distributor.DistributorState.{DistributorState}
 use Rattle.registers.specs.declared.register.AccessWidth.{AccessWidth}
-use Rattle.registers.specs.declared.register.Bank.{Bank}
+use Rattle.bank.specs.declared.bank.Bank.{Bank}
 use Rattle.registers.specs.declared.register.Register.the-variants.{Identification, Ctlr, Typer, Iidr, Fields, Reserved}
 use Rattle.registers.specs.declared.register.Access.{Access}
 use Rattle.registers.specs.declared.register.Access.the-variants.{To, Refused}
 use Rattle.registers.specs.declared.register.Direction.the-variants.{Reading, Writing}
 use Rattle.registers.specs.Registers.{legal, lookup, map, decode}
-use Rattle.registers.specs.Banks.{writeBeyond}
+use Rattle.registers.specs.Ownership.{writeBeyond}
 use Rattle.slot.specs.BankRule.{candidate, bankCandidates}
 use Rattle.slot.specs.BankRuleLaws.{candidate-in}
 use Rattle.distributor.specs.Calls.{read, write, Reply, plain, size, switchBit, deliverableAt, switchCandidates, listingUnless, writeAccess, writeReply, reply}

@@ -3,7 +3,6 @@
 use Prim.Native.Nat.{ℕ}
 use mathlib.Core.Path.{_≡_, refl, sym, ap, _∙_}
 use mathlib.Core.Bool.{Bool, true, false, not}
-use mathlib.Core.List.{[], _∷_}
 use Rattle.identifiers.specs.AnswerLaws.{told-refusal}
 use Rattle.identifiers.specs.Affinity.{fromMpidr, mpidrOf}
 use Rattle.identifiers.specs.AffinityLaws.{Bytes, fromMpidr-mpidr}
@@ -11,7 +10,7 @@ use Rattle.identifiers.specs.State.{levelOf}
 use Rattle.identifiers.specs.declared.types.TriggerMode.{TriggerMode}
 use Rattle.identifiers.specs.declared.types.TriggerMode.the-variants.{Edge, Level}
 use Rattle.interrupt.specs.declared.interrupt.Route.{Route}
-use Rattle.registers.specs.Banks.{bit}
+use Rattle.bank.specs.Banks.{bit}
 use Rattle.slot.specs.Slots.{stateNumber}
 use Rattle.slot.specs.ChangeLaws.{state-same}
 use Rattle.distributor.specs.declared.access.ReadAnswer.{ReadAnswer}

@@ -1,17 +1,17 @@
 // The Distributor: its table of SPIs, and the loops over it.
+use bank::bank::Bank;
 use registers::controller::ControllerConfig;
 use registers::place::Place;
 use registers::place::in_table;
 use registers::place::table_size;
-use registers::register::Bank;
 use slot::slot::Slot;
 ghost use mathlib.Core.Path.{_≡_};
 ghost use mathlib.Core.Bool.{true, cond, _&&_};
 ghost use Prim.Native.Nat.{_+_, _*_, _≤_, _<_};
 ghost use lib.ListN.{length, set};
 ghost use Rattle.theory.specs.Places.{mapAt, passing};
-ghost use Rattle.registers.specs.Registers.{bitsOf};
-ghost use Rattle.registers.specs.Banks.{explicit};
+ghost use Rattle.bank.specs.Banks.{bitsOf};
+ghost use Rattle.registers.specs.Ownership.{explicit};
 ghost use Rattle.slot.specs.BankRule.{bankValue, bankSlot, candidate};
 ghost use Rattle.distributor.specs.Calls.{size, deliverableAt};
 ghost use Rattle.distributor.specs.Loops.{withSlots, Told};

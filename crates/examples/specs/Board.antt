@@ -15,7 +15,7 @@ use Rattle.registers.specs.declared.controller.GicV3SpiOwnership.the-variants.{
 use Rattle.distributor.specs.declared.distributor.DistributorState.{DistributorState}
 use Rattle.registers.specs.declared.register.AccessWidth.the-variants.{Byte, Dword, Qword}
 use Rattle.registers.specs.Registers.{decode}
-use Rattle.distributor.specs.Calls.{Call, create, read, write, claimSoftware, claimPhysical, release, operate, ask, enabled, pending, Reply, reply, step, created}
+use Rattle.distributor.specs.Calls.{Call, create, read, write, claimSoftware, claimPhysical, release, operate, ask, pending, Reply, reply, step, created}
 
 -- frame 0x10000, no ITS, the flags clear
 abbrev plainConfig : GicV3SpiOwnership → ControllerConfig

@@ -12,7 +12,7 @@ use Rattle.operation.specs.declared.operation.Operation.the-variants.{SetEnable
 use Rattle.distributor.specs.declared.distributor.DistributorState.{DistributorState}
 use Rattle.registers.specs.declared.register.AccessWidth.the-variants.{Byte, Dword}
 use Rattle.registers.specs.Registers.{decode}
-use Rattle.distributor.specs.Calls.{Call, read, write, claimSoftware, claimPhysical, release, operate, ask, route, trigger, enabled, cpuTargetMask, reply, step, created}
+use Rattle.distributor.specs.Calls.{Call, read, claimSoftware, claimPhysical, release, operate, ask, route, trigger, enabled, cpuTargetMask, reply, step, created}
 use Rattle.examples.specs.Board.{K, Full}
 use Rattle.examples.specs.OrderExamples.{writes}
 

@@ -17,7 +17,7 @@ use Rattle.slot.specs.declared.slot.Slot.{Slot}
 use Rattle.distributor.specs.declared.distributor.DistributorState.{DistributorState}
 use Rattle.registers.specs.declared.register.AccessWidth.the-variants.{Dword}
 use Rattle.registers.specs.Registers.{decode}
-use Rattle.registers.specs.Banks.{inTable}
+use Rattle.bank.specs.Banks.{inTable}
 use Rattle.slot.specs.Slots.{owned, through}
 use Rattle.slot.specs.BankRule.{noSlot, slotOf}
 use Rattle.distributor.specs.Calls.{Call, write, operate, size, after, step, reply}

@@ -20,8 +20,8 @@ use Rattle.operation.specs.declared.operation.Operation.the-variants.{SetEnable
 use Rattle.distributor.specs.declared.distributor.DistributorState.{DistributorState}
 use Rattle.registers.specs.declared.register.AccessWidth.the-variants.{Byte, Dword, Qword}
 use Rattle.registers.specs.Registers.{decode}
-use Rattle.registers.specs.Banks.{inTable}
-use Rattle.registers.specs.BankLaws.{in-range}
+use Rattle.bank.specs.Banks.{inTable}
+use Rattle.bank.specs.BankLaws.{in-range}
 use Rattle.distributor.specs.Calls.{Call, create, read, write, isEnabled, rollback, release, operate, ask, enabled, step, reply, plain, size}
 use Rattle.order.specs.Names.{theSwitch, spi, names}
 use Rattle.examples.specs.Board.{K}

@@ -11,17 +11,18 @@ use Rattle.registers.specs.declared.controller.ControllerConfig.{ControllerConf
 use Rattle.slot.specs.declared.slot.Slot.{Slot}
 use Rattle.distributor.specs.declared.distributor.DistributorState.{DistributorState}
 use Rattle.registers.specs.declared.register.AccessWidth.{AccessWidth}
-use Rattle.registers.specs.declared.register.Bank.{Bank}
-use Rattle.registers.specs.declared.register.Bank.the-variants.{Igroupr, Isenabler, Icenabler, Ispendr, Icpendr, Isactiver, Icactiver, Ipriorityr, Icfgr, Irouter}
+use Rattle.bank.specs.declared.bank.Bank.{Bank}
+use Rattle.bank.specs.declared.bank.Bank.the-variants.{Igroupr, Isenabler, Icenabler, Ispendr, Icpendr, Isactiver, Icactiver, Ipriorityr, Icfgr, Irouter}
 use Rattle.registers.specs.declared.register.Register.the-variants.{Identification, Ctlr, Typer, Iidr, Fields, Reserved}
 use Rattle.registers.specs.declared.register.Access.{Access}
 use Rattle.registers.specs.declared.register.Access.the-variants.{To, Refused}
 use Rattle.registers.specs.declared.register.Direction.the-variants.{Reading}
 use Rattle.registers.specs.Registers.{decode}
-use Rattle.registers.specs.Banks.{explicit, inTable, shown, field, readBeyond}
+use Rattle.bank.specs.Banks.{inTable, shown, field}
+use Rattle.registers.specs.Ownership.{explicit, readBeyond}
 use Rattle.slot.specs.Slots.{owned, through, written}
 use Rattle.slot.specs.BankRule.{noSlot, slotOf, showing, reaches, bankSlot}
-use Rattle.registers.specs.BankLaws.{packed-same}
+use Rattle.bank.specs.BankLaws.{packed-same}
 use Rattle.distributor.specs.Calls.{read, write, plain, size, writeAccess, writtenAt, after, step, unless, readReply, reply}
 use Rattle.order.specs.OrderFacts.{state}
 

@@ -9,7 +9,7 @@ use Rattle.registers.specs.declared.register.Access.{Access}
 use Rattle.registers.specs.declared.register.Access.the-variants.{To, Refused}
 use Rattle.registers.specs.declared.register.Direction.the-variants.{Reading}
 use Rattle.registers.specs.Registers.{decode}
-use Rattle.registers.specs.Banks.{inTable}
+use Rattle.bank.specs.Banks.{inTable}
 use Rattle.slot.specs.BankRule.{reaches}
 use Rattle.distributor.specs.Calls.{Call, create, read, write, isEnabled, rollback, claimSoftware, claimPhysical, release, operate, ask, writeAccess, switchBit}
 

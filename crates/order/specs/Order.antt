@@ -10,7 +10,7 @@ use Rattle.theory.specs.Footprint.{Footprint, replay, reordered}
 use Rattle.registers.specs.declared.controller.ControllerConfig.{ControllerConfig}
 use Rattle.distributor.specs.declared.distributor.DistributorState.{DistributorState}
 use Rattle.slot.specs.BankRule.{slotOf}
-use Rattle.registers.specs.BankLaws.{in-range}
+use Rattle.bank.specs.BankLaws.{in-range}
 use Rattle.distributor.specs.Calls.{Call, size, created, step, reply}
 use Rattle.order.specs.Names.{Name, theSwitch, spi, names}
 use Rattle.order.specs.OrderFacts.{held, keeps, state, local-state, whole-state, slot-same}

@@ -13,7 +13,7 @@ use Rattle.theory.specs.Elements.{at-getD, at-all, at-mapAt}
 use Rattle.registers.specs.declared.controller.ControllerConfig.{ControllerConfig}
 use Rattle.slot.specs.declared.slot.Slot.{Slot}
 use Rattle.distributor.specs.declared.distributor.DistributorState.{DistributorState}
-use Rattle.registers.specs.declared.register.Bank.{Bank}
+use Rattle.bank.specs.declared.bank.Bank.{Bank}
 use Rattle.registers.specs.declared.register.Register.the-variants.{Identification, Ctlr, Typer, Iidr, Fields, Reserved}
 use Rattle.registers.specs.declared.register.Access.{Access}
 use Rattle.registers.specs.declared.register.Access.the-variants.{To, Refused}

@@ -16,7 +16,8 @@ use Rattle.distributor.specs.declared.distributor.DistributorState.{Distributor
 use Rattle.registers.specs.declared.register.Register.the-variants.{Identification, Ctlr, Typer, Iidr, Fields, Reserved}
 use Rattle.registers.specs.declared.register.Access.{Access}
 use Rattle.registers.specs.declared.register.Access.the-variants.{To, Refused}
-use Rattle.registers.specs.Banks.{inTable, writeBeyond}
+use Rattle.bank.specs.Banks.{inTable}
+use Rattle.registers.specs.Ownership.{writeBeyond}
 use Rattle.slot.specs.BankRule.{noSlot, slotOf, bankCandidates}
 use Rattle.slot.specs.Slots.{claimed, claimedTo, released, operated, claimAnswer, operationValues}
 use Rattle.distributor.specs.Calls.{Call, create, read, write, isEnabled, rollback, claimSoftware, claimPhysical, release, operate, ask, size, writeAccess, only, writtenAt, after, switched, switch, step, onSpi, listingUnless, writeReply, reply}

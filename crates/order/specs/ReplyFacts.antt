@@ -13,18 +13,18 @@ use Rattle.interrupt.specs.Life.{deliverableIn}
 use Rattle.registers.specs.declared.controller.ControllerConfig.{ControllerConfig}
 use Rattle.slot.specs.declared.slot.Slot.{Slot}
 use Rattle.distributor.specs.declared.distributor.DistributorState.{DistributorState}
-use Rattle.registers.specs.declared.register.Bank.{Bank}
+use Rattle.bank.specs.declared.bank.Bank.{Bank}
 use Rattle.registers.specs.declared.register.Register.the-variants.{Identification, Ctlr, Typer, Iidr, Fields, Reserved}
 use Rattle.registers.specs.declared.register.Access.{Access}
 use Rattle.registers.specs.declared.register.Access.the-variants.{To, Refused}
 use Rattle.registers.specs.declared.register.Direction.the-variants.{Reading}
 use Rattle.registers.specs.Registers.{decode}
 use Rattle.registers.specs.Identity.{ctlrValue}
-use Rattle.registers.specs.Banks.{bit, inTable, shown, lists, readBeyond, writeBeyond}
-use Rattle.slot.specs.Slots.{owned}
+use Rattle.bank.specs.Banks.{bit, inTable, shown, lists}
+use Rattle.registers.specs.Ownership.{readBeyond, writeBeyond}
+use Rattle.slot.specs.Slots.{owned, claimAnswer, operationValues}
 use Rattle.slot.specs.BankRule.{slotOf, showing, bankValue, reaches, bankSlot, candidate, bankCandidates}
-use Rattle.registers.specs.BankLaws.{packed-same}
-use Rattle.slot.specs.Slots.{claimAnswer, operationValues}
+use Rattle.bank.specs.BankLaws.{packed-same}
 use Rattle.distributor.specs.Calls.{Call, create, read, write, isEnabled, rollback, claimSoftware, claimPhysical, release, operate, ask, plain, writeAccess, switchBit, unless, deliverableAt, onSpi, readReply, listing, listingUnless, switchCandidates, writeReply, reply, asked}
 use Rattle.order.specs.Names.{theSwitch, spi, readNames, writeNames, names}
 use Rattle.order.specs.OrderFacts.{state}

@@ -1,4 +1,2 @@
-pub mod Digits
-pub mod Refusing
 pub mod Rows
 pub mod Widths

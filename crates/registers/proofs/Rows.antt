@@ -16,13 +16,13 @@ use Rattle.registers.specs.declared.register.Direction.{Direction}
 use Rattle.registers.specs.declared.register.Row.{Row}
 use Rattle.registers.specs.declared.register.Access.the-variants.{To, Refused}
 use Rattle.registers.specs.declared.register.Kind.{Kind}
-use Rattle.registers.specs.declared.register.Bank.{Bank}
+use Rattle.bank.specs.declared.bank.Bank.{Bank}
 use Rattle.registers.specs.declared.register.Register.{Register}
 use Rattle.registers.specs.declared.register.Register.the-variants.{Fields, Reserved}
 use Rattle.identifiers.specs.declared.error.Refusal.the-variants.{InvalidAccess, InvalidWidth}
-use Rattle.registers.specs.Registers.{Bounded}
+use Rattle.registers.specs.Registers.{Bounded, bytesOf, takes, widthsOf, map, noRow, legal, holds, registerAt, rowAccess, lookup, decode}
 use Rattle.registers.proofs.Widths.{bytes-range}
-use Rattle.registers.specs.Registers.{bytesOf, bitsOf, takes, widthsOf, map, noRow, legal, holds, registerAt, rowAccess, lookup, decode}
+use Rattle.bank.specs.Banks.{bitsOf}
 
 pub past : (l : List Row) (k : ℕ) → length l ≤ k → noRow ≡ getD l k noRow
 past [] k h = refl

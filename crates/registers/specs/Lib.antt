@@ -1,8 +1,7 @@
 pub mod Registers
-pub mod Banks
+pub mod Ownership
 pub mod Places
 pub mod Identity
 pub mod IdentityLaws
 pub mod MapLaws
-pub mod BankLaws
-pub mod FieldLaws
+pub mod WidthLaws

@@ -13,8 +13,8 @@ use Rattle.theory.specs.Bools.{both, either, refuted}
 use Rattle.identifiers.specs.Answer.{within}
 use Rattle.theory.specs.PlaceLaws.{everywhere}
 use Rattle.registers.specs.declared.register.AccessWidth.the-variants.{Byte, Dword, Qword}
-use Rattle.registers.specs.declared.register.Bank.{Bank}
-use Rattle.registers.specs.declared.register.Bank.the-variants.{Igroupr, Isenabler, Icenabler, Ispendr, Icpendr, Isactiver, Icactiver, Ipriorityr, Icfgr, Irouter}
+use Rattle.bank.specs.declared.bank.Bank.{Bank}
+use Rattle.bank.specs.declared.bank.Bank.the-variants.{Igroupr, Isenabler, Icenabler, Ispendr, Icpendr, Isactiver, Icactiver, Ipriorityr, Icfgr, Irouter}
 use Rattle.registers.specs.declared.register.Register.the-variants.{Fields}
 use Rattle.registers.specs.declared.register.Access.the-variants.{To}
 use Rattle.registers.specs.declared.register.Direction.{Direction}

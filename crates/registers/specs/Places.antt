@@ -5,7 +5,7 @@ use mathlib.Core.List.{[], _∷_}
 use Rattle.identifiers.specs.Answer.{Answer, done, refused, toldRefusal}
 use Rattle.registers.specs.declared.place.PlaceAnswer.{PlaceAnswer}
 use Rattle.registers.specs.declared.place.PlaceAnswer.the-variants.{At, Refused}
-use Rattle.registers.specs.Banks.{inTable}
+use Rattle.bank.specs.Banks.{inTable}
 
 -- a table has 988 places, and never more records
 abbrev pub tableSize : ℕ → ℕ

@@ -4,6 +4,7 @@ use Prim.Native.Nat.{ℕ, _+_, _-_, _*_, _/_, _%_, _≤_, _<_}
 use mathlib.Core.Bool.{Bool, true, _&&_, cond}
 use mathlib.Core.List.{List, [], _∷_}
 use lib.Dec.{leb, eqb}
+use Rattle.bank.specs.Banks.{bitsOf}
 use Rattle.identifiers.specs.Answer.{within}
 use Rattle.identifiers.specs.declared.error.Refusal.the-variants.{InvalidAccess, InvalidWidth}
 use Rattle.registers.specs.declared.register.AccessWidth.{AccessWidth}
@@ -14,8 +15,8 @@ use Rattle.registers.specs.declared.register.Widths.{Widths}
 use Rattle.registers.specs.declared.register.Widths.the-variants.{Just, Any}
 use Rattle.registers.specs.declared.register.Kind.{Kind}
 use Rattle.registers.specs.declared.register.Row.{Row}
-use Rattle.registers.specs.declared.register.Bank.{Bank}
-use Rattle.registers.specs.declared.register.Bank.the-variants.{Igroupr, Isenabler, Icenabler, Ispendr, Icpendr, Isactiver, Icactiver, Ipriorityr, Icfgr, Irouter}
+use Rattle.bank.specs.declared.bank.Bank.{Bank}
+use Rattle.bank.specs.declared.bank.Bank.the-variants.{Igroupr, Isenabler, Icenabler, Ispendr, Icpendr, Isactiver, Icactiver, Ipriorityr, Icfgr, Irouter}
 use Rattle.registers.specs.declared.register.Register.{Register}
 use Rattle.registers.specs.declared.register.Register.the-variants.{Identification, Ctlr, Typer, Iidr, Fields, Reserved}
 use Rattle.registers.specs.declared.register.Access.{Access}
@@ -30,19 +31,6 @@ bytesOf Qword = 8
 abbrev pub takes : Widths → AccessWidth → Bool
 takes (Just w) v = eqb (bytesOf w) (bytesOf v)
 takes Any v = true
-
--- the bits that a bank has for each INTID
-abbrev pub bitsOf : Bank → ℕ
-bitsOf Igroupr = 1
-bitsOf Isenabler = 1
-bitsOf Icenabler = 1
-bitsOf Ispendr = 1
-bitsOf Icpendr = 1
-bitsOf Isactiver = 1
-bitsOf Icactiver = 1
-bitsOf Ipriorityr = 8
-bitsOf Icfgr = 2
-bitsOf Irouter = 64
 
 -- a row of the map: the registers at every k bytes from f up to below e, with the widths for reading and for writing
 abbrev pub row : ℕ → ℕ → ℕ → Widths → Widths → Kind → Row

@@ -2,8 +2,8 @@
 use identifiers::error::Refusal;
 ghost use mathlib.Core.Path.{_≡_};
 ghost use mathlib.Core.Bool.{cond};
-ghost use Prim.Native.Nat.{_-_, _≤_, _<_};
-ghost use Rattle.registers.specs.Banks.{inTable};
+ghost use Prim.Native.Nat.{_-_, _<_};
+ghost use Rattle.bank.specs.Banks.{inTable};
 ghost use Rattle.registers.specs.Places.{tableSize, toldPlace, placeAnswer};
 
 pub struct Place(usize);

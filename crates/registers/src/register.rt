@@ -1,10 +1,12 @@
 // The registers of the Distributor's frame, by Arm's names, and how an access to the frame is decoded. The map is the same, row by
 // row, as the one in specs/Registers.antt.
+use bank::bank::Bank;
 use identifiers::error::Refusal;
 ghost use mathlib.Core.Path.{_≡_};
 ghost use Prim.Native.Nat.{_+_, _*_, _/_, _≤_, _<_};
 ghost use lib.ListN.{getD};
-ghost use Rattle.registers.specs.Registers.{bytesOf, bitsOf, takes, row, noRow, map, widthsOf, legal, holds, registerAt, rowAccess, lookup, decode};
+ghost use Rattle.bank.specs.Banks.{bitsOf};
+ghost use Rattle.registers.specs.Registers.{bytesOf, takes, row, noRow, map, widthsOf, legal, holds, registerAt, rowAccess, lookup, decode};
 
 // How many bytes an access covers: 1, 2, 4 or 8.
 pub enum AccessWidth {
@@ -17,20 +19,6 @@ pub enum AccessWidth {
 pub enum Direction {
     Reading,
     Writing,
-}
-
-// A bank holds a field of the same width for each INTID.
-pub enum Bank {
-    Igroupr,
-    Isenabler,
-    Icenabler,
-    Ispendr,
-    Icpendr,
-    Isactiver,
-    Icactiver,
-    Ipriorityr,
-    Icfgr,
-    Irouter,
 }
 
 // What an access reaches.
@@ -85,25 +73,6 @@ impl AccessWidth {
             AccessWidth::Word => 2,
             AccessWidth::Dword => 4,
             AccessWidth::Qword => 8,
-        }
-    }
-}
-
-impl Bank {
-    pub fn bits(self) -> u64
-        ensures { λ r. ⌜ r ≡ bitsOf self ⌝ }
-    {
-        match self {
-            Bank::Igroupr => 1,
-            Bank::Isenabler => 1,
-            Bank::Icenabler => 1,
-            Bank::Ispendr => 1,
-            Bank::Icpendr => 1,
-            Bank::Isactiver => 1,
-            Bank::Icactiver => 1,
-            Bank::Ipriorityr => 8,
-            Bank::Icfgr => 2,
-            Bank::Irouter => 64,
         }
     }
 }

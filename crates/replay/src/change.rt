@@ -1,6 +1,6 @@
 // The host's calls that change one SPI, by number.
-use crate::answer::Answer;
 use crate::answer;
+use crate::answer::Answer;
 use crate::number::has;
 use crate::number::low_byte;
 use crate::number::of_state;

@@ -1,6 +1,6 @@
 // Creation, by number.
-use crate::answer::Answer;
 use crate::answer;
+use crate::answer::Answer;
 use crate::call::Call;
 use crate::number::has;
 use crate::number::low_word;

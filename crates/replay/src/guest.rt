@@ -1,6 +1,6 @@
 // The guest's reads and writes, by number.
-use crate::answer::Answer;
 use crate::answer;
+use crate::answer::Answer;
 use crate::call::Call;
 use crate::run::Ran;
 use distributor::access::ReadAnswer;

@@ -1,6 +1,6 @@
 // The host's questions about one SPI, by number.
-use crate::answer::Answer;
 use crate::answer;
+use crate::answer::Answer;
 use crate::number::bit;
 use crate::number::of_state;
 use crate::number::of_trigger;

@@ -1,9 +1,9 @@
 // A call, run on a Distributor.
-use crate::answer::Answer;
 use crate::answer;
+use crate::answer::Answer;
+use crate::call;
 use crate::call::Call;
 use crate::call::Family;
-use crate::call;
 use crate::change;
 use crate::create;
 use crate::guest;

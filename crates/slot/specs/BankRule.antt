@@ -10,8 +10,8 @@ use Rattle.interrupt.specs.Life.{deliverableIn}
 use Rattle.identifiers.specs.declared.types.IntId.{IntId}
 use Rattle.identifiers.specs.declared.types.TriggerMode.{TriggerMode}
 use Rattle.registers.specs.declared.controller.ControllerConfig.{ControllerConfig}
-use Rattle.registers.specs.declared.register.Bank.{Bank}
-use Rattle.registers.specs.Banks.{inTable, shown, acts, lists, field, packed}
+use Rattle.bank.specs.declared.bank.Bank.{Bank}
+use Rattle.bank.specs.Banks.{inTable, shown, acts, lists, field, packed}
 use Rattle.slot.specs.declared.slot.Slot.{Slot}
 use Rattle.slot.specs.Slots.{owned, written}
 

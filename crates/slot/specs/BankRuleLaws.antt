@@ -6,9 +6,9 @@ use mathlib.Core.List.{List}
 use Rattle.theory.specs.Bools.{both}
 use Rattle.identifiers.specs.Answer.{within}
 use Rattle.registers.specs.declared.controller.ControllerConfig.{ControllerConfig}
-use Rattle.registers.specs.declared.register.Bank.{Bank}
-use Rattle.registers.specs.Banks.{inTable, lists}
-use Rattle.registers.specs.BankLaws.{in-range}
+use Rattle.bank.specs.declared.bank.Bank.{Bank}
+use Rattle.bank.specs.Banks.{inTable, lists}
+use Rattle.bank.specs.BankLaws.{in-range}
 use Rattle.slot.specs.declared.slot.Slot.{Slot}
 use Rattle.slot.specs.Slots.{owned}
 use Rattle.slot.specs.BankRule.{slotOf, reaches, candidate}

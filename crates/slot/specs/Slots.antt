@@ -15,9 +15,10 @@ use Rattle.interrupt.specs.declared.interrupt.InterruptRecord.{InterruptRecord}
 use Rattle.operation.specs.declared.operation.Operation.{Operation}
 use Rattle.operation.specs.declared.operation.Operation.the-variants.{SetEnabled, SetPending, SetActive, SetState, ClearDeliveryState, MarkInflight, SynchronizeInflight, CancelInflight, FinishInflight, DeactivateInflight, SetPriority, SetTrigger, SetRoute, ClearRoute, SetCpuTargetMask, SetLevel, Pulse, Complete}
 use Rattle.registers.specs.declared.controller.ControllerConfig.{ControllerConfig}
-use Rattle.registers.specs.declared.register.Bank.{Bank}
-use Rattle.registers.specs.declared.register.Bank.the-variants.{Igroupr, Isenabler, Icenabler, Ispendr, Icpendr, Isactiver, Icactiver, Ipriorityr, Icfgr, Irouter}
-use Rattle.registers.specs.Banks.{explicit, triggerIn, acts, lists}
+use Rattle.bank.specs.declared.bank.Bank.{Bank}
+use Rattle.bank.specs.declared.bank.Bank.the-variants.{Igroupr, Isenabler, Icenabler, Ispendr, Icpendr, Isactiver, Icactiver, Ipriorityr, Icfgr, Irouter}
+use Rattle.bank.specs.Banks.{triggerIn, acts, lists}
+use Rattle.registers.specs.Ownership.{explicit}
 use Rattle.slot.specs.declared.slot.Slot.{Slot}
 
 -- a new SPI is level-sensitive, unclaimed, and its route is not fixed

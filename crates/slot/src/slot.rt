@@ -1,4 +1,6 @@
 // One SPI: what a bank shows of it, and what a written field does to it. No table is in here.
+use bank::bank::Bank;
+use bank::bank::trigger_in;
 use identifiers::types::GicAffinity;
 use identifiers::types::IntId;
 use identifiers::types::Priority;
@@ -7,13 +9,10 @@ use identifiers::types::TriggerMode;
 use interrupt::interrupt::InterruptRecord;
 use operation::operation::Operation;
 use operation::operation::apply;
-use registers::bank::trigger_in;
-use registers::register::Bank;
 ghost use mathlib.Core.Path.{_≡_};
 ghost use mathlib.Core.Bool.{cond, not, _&&_, _||_};
 ghost use Prim.Native.Nat.{_^_, _<_};
-ghost use Rattle.registers.specs.Registers.{bitsOf};
-ghost use Rattle.registers.specs.Banks.{shown};
+ghost use Rattle.bank.specs.Banks.{bitsOf, shown};
 ghost use Rattle.slot.specs.Slots.{freshSpi, through, written, turned, listed};
 
 // One SPI: its record, whether the host has claimed it for the guest, and whether its route is fixed.

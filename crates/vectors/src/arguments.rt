@@ -1,7 +1,7 @@
 // What the arguments of a call may be (docs/ORACLE.md, "The calls").
+use replay::call;
 use replay::call::Call;
 use replay::call::Family;
-use replay::call;
 
 const ANY: u64 = 0xffff_ffff_ffff_ffff;
 

@@ -1,9 +1,9 @@
 // All that is seen of a call, held against its line: the answer, the switch, every place of the lent list and every slot.
 use crate::arguments::PLACES;
+use crate::line;
 use crate::line::CANDIDATES;
 use crate::line::Seen;
 use crate::line::WORDS;
-use crate::line;
 use crate::table::SPIS;
 use distributor::distributor::DistributorState;
 use replay::answer::Answer;

@@ -2,19 +2,19 @@
 //
 // The Distributor runs every call. The slots that the lines list are gathered beside it, and after each call the whole of it is held
 // against them.
-use crate::arguments::PLACES;
 use crate::arguments;
-use crate::compare::UNTOUCHED;
+use crate::arguments::PLACES;
 use crate::compare;
+use crate::compare::UNTOUCHED;
 use crate::lexer::Lexed;
 use crate::lexer::Lexer;
+use crate::line;
 use crate::line::Line;
 use crate::line::Parsed;
 use crate::line::WORDS;
-use crate::line;
 use crate::report;
-use crate::table::SPIS;
 use crate::table;
+use crate::table::SPIS;
 use distributor::distributor::DistributorState;
 use replay::create;
 use replay::packed::FRESH;

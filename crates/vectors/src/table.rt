@@ -1,6 +1,6 @@
 // The slots as the lines so far leave them, a place for each SPI.
-use crate::line::WORDS;
 use crate::line;
+use crate::line::WORDS;
 
 // The most SPIs of a table.
 pub const SPIS: usize = 988;

@@ -3,9 +3,9 @@ use Prim.Native.Nat.{ℕ, _+_, _-_, _^_, _≤_, _<_}
 use mathlib.Core.Path.{_≡_, _∙_}
 use native.Mathlib.Nat.{pow-zero}
 use native.Mathlib.Omega.{arith}
-use Rattle.registers.specs.Registers.{bitsOf}
-use Rattle.registers.specs.Banks.{packed}
-use Rattle.registers.proofs.Digits.{joined-same}
+use Rattle.bank.specs.Banks.{bitsOf}
+use Rattle.bank.specs.Banks.{packed}
+use Rattle.bank.proofs.Digits.{joined-same}
 use Rattle.slot.specs.BankRule.{showing}
 use Rattle.distributor.specs.Calls.{size}
 use Rattle.distributor.proofs.Reading.{room, packed-more, packed-below, shows}

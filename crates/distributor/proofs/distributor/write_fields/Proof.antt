@@ -6,14 +6,14 @@ use native.Mathlib.Nat.{pow-zero, div-one}
 use native.Mathlib.Omega.{arith}
 use denote.Ref.{now}
 use Rattle.theory.specs.Places.{passing}
-use Rattle.registers.specs.Registers.{bitsOf}
+use Rattle.bank.specs.Banks.{bitsOf}
 use Rattle.slot.specs.BankRule.{candidate}
 use Rattle.distributor.specs.Calls.{size}
 use Rattle.distributor.specs.Loops.{withSlots, Told}
 use Rattle.slot.specs.BankRuleLaws.{candidate-in}
 use Rattle.distributor.proofs.Listing.{told-size, told-room, told-more, table-fits}
 use Rattle.distributor.proofs.Writing.{swept, upTo, none-yet, state-more, on-more}
-use Rattle.registers.proofs.Digits.{used}
+use Rattle.bank.proofs.Digits.{used}
 use Rattle.theory.specs.Bools.{both}
 use Rattle.theory.specs.MapLaws.{mapAt-still}
 use Rattle.distributor.proofs.distributor.write_fields.Statement.{statement}

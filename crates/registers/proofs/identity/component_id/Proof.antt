@@ -1,5 +1,5 @@
 use native.Mathlib.Omega.{arith}
-use Rattle.registers.specs.FieldLaws.{id-fits, past-end}
+use Rattle.registers.specs.WidthLaws.{id-fits, past-end}
 use borrow.Author.Needs.{needs}
 use Rattle.registers.proofs.identity.component_id.Statement.{statement}
 use Rattle.registers.proofs.identity.component_id.Tie as tie

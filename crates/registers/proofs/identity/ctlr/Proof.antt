@@ -1,5 +1,5 @@
 use native.Mathlib.Omega.{arith}
-use Rattle.registers.specs.FieldLaws.{bit-fits}
+use Rattle.bank.specs.FieldLaws.{bit-fits}
 use borrow.Author.Needs.{needs}
 use Rattle.registers.proofs.identity.ctlr.Statement.{statement}
 use Rattle.registers.proofs.identity.ctlr.Tie as tie

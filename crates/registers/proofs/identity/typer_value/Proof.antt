@@ -1,6 +1,6 @@
 use native.Mathlib.Omega.{arith}
 use lib.Count.{leading-le}
-use Rattle.registers.specs.FieldLaws.{bit-fits}
+use Rattle.bank.specs.FieldLaws.{bit-fits}
 use borrow.Author.Needs.{needs}
 use Rattle.registers.proofs.identity.typer_value.Statement.{statement}
 use Rattle.registers.proofs.identity.typer_value.Tie as tie

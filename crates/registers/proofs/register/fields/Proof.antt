@@ -3,7 +3,8 @@ use Prim.Native.Nat.{ℕ, _*_, _/_, _≤_, _<_}
 use native.Mathlib.Nat.{div-le-self}
 use native.Mathlib.Omega.{arith}
 use borrow.Author.Needs.{needs}
-use Rattle.registers.proofs.Widths.{bytes-range, bits-range}
+use Rattle.bank.proofs.Digits.{bits-range}
+use Rattle.registers.proofs.Widths.{bytes-range}
 use Rattle.registers.proofs.register.fields.Statement.{statement}
 use Rattle.registers.proofs.register.fields.Tie as tie
 

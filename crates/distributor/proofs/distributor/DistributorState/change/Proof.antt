@@ -1,7 +1,7 @@
 -- `change` meets its contract: the slot at the SPI's place is changed, or the call is refused.
 use mathlib.Core.Path.{_≡_, refl, sym, ap, _∙_}
 use native.Mathlib.Omega.{arith}
-use Rattle.registers.specs.BankLaws.{in-range}
+use Rattle.bank.specs.BankLaws.{in-range}
 use lib.ListN.{set}
 use Rattle.slot.specs.declared.change.ChangeAnswer.{ChangeAnswer}
 use Rattle.distributor.specs.Calls.{size}

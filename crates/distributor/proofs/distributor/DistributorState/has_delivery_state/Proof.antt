@@ -2,7 +2,7 @@ use mathlib.Core.Path.{sym, ap, _∙_}
 use mathlib.Core.Bool.{Bool}
 use mathlib.Core.List.{[], _∷_}
 use Rattle.identifiers.specs.Answer.{done}
-use Rattle.registers.specs.Banks.{bit}
+use Rattle.bank.specs.Banks.{bit}
 use Rattle.distributor.specs.Calls.{hasDeliveryState, plain}
 use Rattle.distributor.proofs.Hosting.{found, missed}
 use borrow.Author.Needs.{needs}

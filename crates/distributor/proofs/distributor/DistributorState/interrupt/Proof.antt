@@ -1,7 +1,7 @@
 -- `interrupt` meets its contract.
 use mathlib.Core.Path.{_≡_, refl, sym, ap, _∙_}
 use native.Mathlib.Omega.{arith}
-use Rattle.registers.specs.BankLaws.{in-range}
+use Rattle.bank.specs.BankLaws.{in-range}
 use Rattle.distributor.specs.Calls.{size}
 use Rattle.registers.specs.Places.{toldPlace, placeAnswer}
 use Rattle.distributor.proofs.Hosting.{at-place, off-place}

@@ -3,10 +3,10 @@ use Prim.Native.Nat.{ℕ}
 use mathlib.Core.Path.{_≡_, sym, ap, _∙_}
 use mathlib.Core.List.{[], _∷_}
 use Rattle.identifiers.specs.Answer.{done}
-use Rattle.registers.specs.Banks.{readBeyond}
+use Rattle.registers.specs.Ownership.{readBeyond}
 use Rattle.slot.specs.BankRule.{bankValue}
 use Rattle.distributor.specs.Calls.{size, plain}
-use Rattle.registers.specs.Banks.{lowest, toldBeyond}
+use Rattle.bank.specs.Banks.{lowest, toldBeyond}
 use Rattle.distributor.proofs.Replying.{unless-hit, unless-miss}
 use borrow.Author.Needs.{needs}
 use Rattle.distributor.proofs.distributor.DistributorState.read_bank.Statement.{statement}

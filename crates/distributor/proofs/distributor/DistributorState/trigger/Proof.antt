@@ -4,7 +4,7 @@ use mathlib.Core.Bool.{not}
 use mathlib.Core.List.{[], _∷_}
 use Rattle.identifiers.specs.State.{levelOf}
 use Rattle.identifiers.specs.Answer.{done}
-use Rattle.registers.specs.Banks.{bit}
+use Rattle.bank.specs.Banks.{bit}
 use Rattle.distributor.specs.Calls.{trigger, plain}
 use Rattle.distributor.proofs.Hosting.{found, missed}
 use borrow.Author.Needs.{needs}

@@ -2,10 +2,10 @@
 use mathlib.Core.Path.{_≡_, sym, ap, _∙_}
 use mathlib.Core.Bool.{false}
 use denote.Ref.{now}
-use Rattle.registers.specs.Banks.{writeBeyond}
+use Rattle.registers.specs.Ownership.{writeBeyond}
 use Rattle.slot.specs.BankRule.{bankCandidates}
 use Rattle.distributor.specs.Calls.{size}
-use Rattle.registers.specs.Banks.{lowest, toldBeyond}
+use Rattle.bank.specs.Banks.{lowest, toldBeyond}
 use Rattle.distributor.proofs.Replying.{listing-hit, listing-miss, untold}
 use borrow.Author.Needs.{needs}
 use Rattle.distributor.proofs.distributor.DistributorState.write_bank.Statement.{statement}

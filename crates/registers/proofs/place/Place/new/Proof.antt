@@ -1,6 +1,6 @@
 use mathlib.Core.Path.{sym, _∙_}
 use native.Mathlib.Omega.{arith}
-use Rattle.registers.specs.BankLaws.{in-range}
+use Rattle.bank.specs.BankLaws.{in-range}
 use Rattle.registers.specs.Places.{tableSize}
 use borrow.Author.Needs.{needs}
 use Rattle.registers.proofs.place.Place.new.Statement.{statement}

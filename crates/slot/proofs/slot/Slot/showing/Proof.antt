@@ -1,7 +1,7 @@
 use mathlib.Core.Path.{sym, ap, _∙_}
 use mathlib.Core.Bool.{Bool, _&&_}
 use lib.Pow.{pow-pos}
-use Rattle.registers.specs.Registers.{bitsOf}
+use Rattle.bank.specs.Banks.{bitsOf}
 use borrow.Author.Needs.{needs}
 use Rattle.slot.proofs.slot.Slot.showing.Statement.{statement}
 use Rattle.slot.proofs.slot.Slot.showing.Tie as tie

@@ -1,0 +1,15 @@
+use borrow.Author.Needs.{needs}
+use Rattle.bank.proofs.bank.Bank.write_refuses.Statement.{statement}
+use Rattle.bank.proofs.bank.Bank.write_refuses.Tie as tie
+
+ignores-beyond-requires : tie.Need-ignores-beyond-requires
+ignores-beyond-requires c κs = search needs
+
+acts-requires : tie.Need-acts-requires
+acts-requires c κs = search needs
+
+returns : tie.Need-returns
+returns c = cc
+
+pub write-refuses-spec : {M : Type 1} → statement M
+write-refuses-spec = tie.close (tie.spec ignores-beyond-requires acts-requires returns)

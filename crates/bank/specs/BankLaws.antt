@@ -1,0 +1,22 @@
+-- Laws of the bank rule.
+use Prim.Native.Nat.{ℕ, zero, suc, _+_, _≤_, _<_}
+use mathlib.Core.Path.{_≡_, refl}
+use mathlib.Core.Bool.{true}
+use native.Mathlib.Omega.{arith}
+use borrow.Author.Tests.{leb-true, ltb-true}
+use lib.Dec.{leb}
+use Rattle.theory.specs.Bools.{both}
+use Rattle.bank.specs.declared.bank.Bank.{Bank}
+use Rattle.bank.specs.Banks.{inTable, packed}
+
+-- an INTID that the table has
+pub in-range : (n i : ℕ) → inTable n i ≡ true → (32 ≤ i) × (i < 32 + n)
+in-range n i e = let (low, high) = both (leb 32 i) _ e in (leb-true _ _ low, ltb-true _ _ high)
+
+-- packed fields rest on the fields that are packed
+pub packed-same : (b : Bank) (t u : ℕ → ℕ) (lo m : ℕ) → ((i : ℕ) → lo ≤ i → i < lo + m → t i ≡ u i) → packed b t lo m ≡ packed b u lo m
+packed-same b t u lo zero h = refl
+packed-same b t u lo (suc m) h =
+    let here : t lo ≡ u lo = h lo (omega arith) (omega arith) in
+    let rest : packed b t (suc lo) m ≡ packed b u (suc lo) m = packed-same b t u (suc lo) m (λ i p q. h i (omega arith) (omega arith)) in
+    rw (here, rest)

@@ -1,0 +1,56 @@
+-- What a bank shows fits its fields.
+use Prim.Native.Nat.{ℕ, zero, suc, _+_, _-_, _*_, _^_, _≤_, _<_}
+use mathlib.Core.Path.{_≡_}
+use mathlib.Core.Bool.{Bool, true, false, cond}
+use mir.Val.{boolByte}
+use native.Mathlib.Nat.{mul-le-mul-right, mul-suc, suc-mul, mul-zero, pow-zero, pow-suc}
+use native.Mathlib.Omega.{arith}
+use lib.Pow.{pow-add}
+use Rattle.identifiers.specs.AffinityLaws.{Bytes}
+use Rattle.identifiers.specs.declared.types.TriggerMode.{TriggerMode}
+use Rattle.interrupt.specs.Life.{routeIn}
+use Rattle.interrupt.specs.declared.interrupt.InterruptRecord.{InterruptRecord}
+use Rattle.interrupt.specs.declared.interrupt.Route.{Route}
+use Rattle.bank.specs.declared.bank.Bank.{Bank}
+use Rattle.bank.specs.declared.bank.Bank.the-variants.{Igroupr, Isenabler, Icenabler, Ispendr, Icpendr, Isactiver, Icactiver, Ipriorityr, Icfgr, Irouter}
+use Rattle.bank.specs.Banks.{bitsOf, routed, edgeField, shown, packed}
+
+pub pow-pow : (a m : ℕ) → (2 ^ a) ^ m ≡ 2 ^ (a * m)
+pow-pow a zero = rw (mul-zero a, pow-zero (2 ^ a))
+pow-pow a (suc m) = rw (pow-suc (2 ^ a) m, pow-pow a m, mul-suc a m, pow-add 2 (a * m) a)
+
+pub digit-fits : (p q t b : ℕ) → p < q → t < b → p * b + t < q * b
+digit-fits p q t b h k = let e : suc p * b ≤ q * b = mul-le-mul-right b h in let f : suc p * b ≡ p * b + b = suc-mul p b in omega arith
+
+pub packed-fits : (b : Bank) (t : ℕ → ℕ) → ((i : ℕ) → t i < 2 ^ bitsOf b) → (lo m : ℕ) → packed b t lo m < (2 ^ bitsOf b) ^ m
+packed-fits b t h lo zero = rw (pow-zero (2 ^ bitsOf b)) (omega arith)
+packed-fits b t h lo (suc m) =
+    rw (pow-suc (2 ^ bitsOf b) m) (digit-fits (packed b t (suc lo) m) ((2 ^ bitsOf b) ^ m) (t lo) (2 ^ bitsOf b) (packed-fits b t h (suc lo) m) (h lo))
+
+pub bit-fits : (b : Bool) → boolByte b < 2
+bit-fits true = omega arith
+bit-fits false = omega arith
+
+pub edge-fits : (t : TriggerMode) → edgeField t < 4
+edge-fits TriggerMode.Edge = omega arith
+edge-fits TriggerMode.Level = omega arith
+
+route-fits : (r : InterruptRecord) → Bytes (r .route) → shown Irouter r < 2 ^ 64
+unfolding routeIn
+route-fits r h = go (r .routed)
+  where
+    go : (b : Bool) → routed (cond b (Route.To (r .route)) Route.Unset) < 2 ^ 64
+    go true = omega arith
+    go false = omega arith
+
+pub shown-fits : (b : Bank) (r : InterruptRecord) → r .priority .0 < 256 → Bytes (r .route) → shown b r < 2 ^ bitsOf b
+shown-fits Igroupr r p h = omega arith
+shown-fits Isenabler r p h = bit-fits (r .enabled)
+shown-fits Icenabler r p h = bit-fits (r .enabled)
+shown-fits Ispendr r p h = bit-fits (r .pending)
+shown-fits Icpendr r p h = bit-fits (r .pending)
+shown-fits Isactiver r p h = bit-fits (r .active)
+shown-fits Icactiver r p h = bit-fits (r .active)
+shown-fits Ipriorityr r p h = p
+shown-fits Icfgr r p h = edge-fits (r .trigger)
+shown-fits Irouter r p h = route-fits r h
