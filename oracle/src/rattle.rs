@@ -12,22 +12,24 @@ use crate::{
 
 // A slice crosses as a pointer and a count.
 unsafe extern "C" {
-    fn batch_run(calls: *const u64, words: usize, seen: *mut u64, room: usize) -> usize;
-    fn batch_bench(calls: *const u64, words: usize) -> u64;
+    fn batch_run(calls: *const u8, bytes: usize, seen: *mut u8, room: usize) -> usize;
+    fn batch_bench(calls: *const u8, bytes: usize) -> u64;
 }
 
-/// Each call as five words.
-pub fn encode(calls: &[Call]) -> Vec<u64> {
-    let words = |call: &Call| {
-        let [a, b, c, d] = call.args;
-        [call.op as u64, a, b, c, d]
-    };
-    calls.iter().flat_map(words).collect()
+/// Each call as 33 bytes: its number, and its arguments of 8 bytes each, the
+/// lowest first.
+pub fn encode(calls: &[Call]) -> Vec<u8> {
+    let mut bytes = Vec::with_capacity(33 * calls.len());
+    for call in calls {
+        bytes.push(call.op as u8);
+        bytes.extend(call.args.iter().flat_map(|arg| arg.to_le_bytes()));
+    }
+    bytes
 }
 
 /// Runs a creation and then reads and writes, and hands back a sum of their
 /// answers.
-pub fn bench(calls: &[u64]) -> u64 {
+pub fn bench(calls: &[u8]) -> u64 {
     unsafe { batch_bench(calls.as_ptr(), calls.len()) }
 }
 
@@ -36,8 +38,8 @@ pub struct Rattle {
     /// The calls from the last creation on, those announced included.
     calls: Vec<Call>,
     /// What the library hands back of them.
-    seen: Vec<u64>,
-    /// How many of the calls were asked for, and how many words of `seen` they
+    seen: Vec<u8>,
+    /// How many of the calls were asked for, and how many bytes of `seen` they
     /// take.
     ran: usize,
     at: usize,
@@ -58,27 +60,34 @@ impl Rattle {
         let calls = encode(&self.calls);
         loop {
             let room = self.seen.len();
-            let words = unsafe {
+            let bytes = unsafe {
                 let seen = self.seen.as_mut_ptr();
                 batch_run(calls.as_ptr(), calls.len(), seen, room)
             };
-            if words <= room {
+            if bytes <= room {
                 return;
             }
-            self.seen.resize(words, 0);
+            self.seen.resize(bytes, 0);
         }
     }
 
-    fn word(&mut self) -> u64 {
-        self.at += 1;
-        self.seen[self.at - 1]
+    /// The next bytes.
+    fn take<const BYTES: usize>(&mut self) -> [u8; BYTES] {
+        let rest = &self.seen[self.at..];
+        self.at += BYTES;
+        *rest.first_chunk().expect("a call is seen whole")
     }
 
-    /// A count and as many words.
-    fn words(&mut self) -> Vec<u64> {
-        let count = self.word() as usize;
-        self.at += count;
-        self.seen[self.at - count..self.at].to_vec()
+    fn byte(&mut self) -> u8 {
+        u8::from_le_bytes(self.take())
+    }
+
+    fn half(&mut self) -> u32 {
+        u32::from_le_bytes(self.take())
+    }
+
+    fn word(&mut self) -> u64 {
+        u64::from_le_bytes(self.take())
     }
 }
 
@@ -95,12 +104,14 @@ impl Machine for Rattle {
             self.play();
         }
         self.ran += 1;
-        let kind = self.word() as u8;
+        let kind = self.byte();
         let payload = self.word();
-        let count = self.word() as usize;
-        self.switch = self.word() != 0;
-        let lent: Vec<u32> = self.words().into_iter().map(|word| word as u32).collect();
-        self.slots = self.words();
+        let count = self.half() as usize;
+        self.switch = self.byte() != 0;
+        let places = self.half();
+        let lent: Vec<u32> = (0..places).map(|_| self.half()).collect();
+        let slots = self.half();
+        self.slots = (0..slots).map(|_| self.word()).collect();
         Answer {
             kind,
             payload,
