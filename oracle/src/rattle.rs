@@ -5,15 +5,41 @@
 //! will come (`announce`) and runs them at once. A call that was not announced
 //! makes it run all calls since the last creation again.
 
+use std::marker::PhantomData;
+
 use crate::{
     calls::{Answer, Call, Op},
     machine::Machine,
 };
 
-// A slice crosses as a pointer and a count.
+/// A slice as it crosses: a pointer and a count.
+#[repr(C)]
+struct Slice<'a, P> {
+    first: P,
+    count: usize,
+    lent: PhantomData<&'a P>,
+}
+
+// Safe, since a `Slice` is made by the two functions below alone.
 unsafe extern "C" {
-    fn batch_run(calls: *const u8, bytes: usize, seen: *mut u8, room: usize) -> usize;
-    fn batch_bench(calls: *const u8, bytes: usize) -> u64;
+    safe fn batch_run(calls: Slice<*const u8>, seen: Slice<*mut u8>) -> usize;
+    safe fn batch_bench(calls: Slice<*const u8>) -> u64;
+}
+
+fn lend(bytes: &[u8]) -> Slice<'_, *const u8> {
+    Slice {
+        first: bytes.as_ptr(),
+        count: bytes.len(),
+        lent: PhantomData,
+    }
+}
+
+fn lend_mut(bytes: &mut [u8]) -> Slice<'_, *mut u8> {
+    Slice {
+        first: bytes.as_mut_ptr(),
+        count: bytes.len(),
+        lent: PhantomData,
+    }
 }
 
 /// Each call as 33 bytes: its number, and its arguments of 8 bytes each, the
@@ -30,7 +56,7 @@ pub fn encode(calls: &[Call]) -> Vec<u8> {
 /// Runs a creation and then reads and writes, and hands back a sum of their
 /// answers.
 pub fn bench(calls: &[u8]) -> u64 {
-    unsafe { batch_bench(calls.as_ptr(), calls.len()) }
+    batch_bench(lend(calls))
 }
 
 #[derive(Default)]
@@ -59,12 +85,8 @@ impl Rattle {
     fn play(&mut self) {
         let calls = encode(&self.calls);
         loop {
-            let room = self.seen.len();
-            let bytes = unsafe {
-                let seen = self.seen.as_mut_ptr();
-                batch_run(calls.as_ptr(), calls.len(), seen, room)
-            };
-            if bytes <= room {
+            let bytes = batch_run(lend(&calls), lend_mut(&mut self.seen));
+            if bytes <= self.seen.len() {
                 return;
             }
             self.seen.resize(bytes, 0);
@@ -139,6 +161,28 @@ mod tests {
         for row in board::rows(Rattle::default) {
             assert!(row.agrees(), "{} {}: {}", row.case, row.call, row.said);
         }
+    }
+
+    #[test]
+    fn a_call_and_what_is_seen_of_it_have_the_bytes_of_the_page() {
+        let calls = encode(&[Call::new(Op::Create, &[2, 0, 0x1_0203, 0])]);
+        assert_eq!(calls.len(), 33);
+        assert_eq!(calls[..2], [0x10, 2]);
+        assert_eq!(calls[17..21], [3, 2, 1, 0]);
+        let mut seen = [0xff; 39];
+        assert_eq!(batch_run(lend(&calls), lend_mut(&mut seen)), 38);
+        let fresh = [0, 0, 0x80, 0, 0, 0, 0, 0];
+        assert_eq!(seen[..18], [0; 18]);
+        assert_eq!(seen[18..22], [2, 0, 0, 0]);
+        assert_eq!(seen[22..], [&fresh[..], &fresh, &[0xff]].concat());
+    }
+
+    #[test]
+    fn what_has_no_room_is_left_out() {
+        let calls = encode(&[Call::new(Op::Create, &[2, 0, 0x1_0000, 0])]);
+        let mut seen = [0xff; 38];
+        assert_eq!(batch_run(lend(&calls), lend_mut(&mut seen[..20])), 38);
+        assert_eq!(seen[18..], [&[2, 0][..], &[0xff; 18]].concat());
     }
 
     #[test]

@@ -137,11 +137,11 @@ impl Settling {
             (Op::SetRoute, route, now.route),
             flag(Op::SetPending, shown.pending, now.pending),
         ];
-        // Pending comes last and always, since the others may change it.
-        let differ = fields.iter().any(|(_, shown, now)| shown != now);
-        let wanted = |op: Op, shown: u64, now: u64| shown != now || differ && op == Op::SetPending;
+        // Pending comes last, and after any other, since that may change it.
+        let before = self.ours.len();
         for (op, shown, now) in fields {
-            if wanted(op, shown, now) {
+            let changed = self.ours.len() > before;
+            if shown != now || changed && op == Op::SetPending {
                 self.ours.push(Call::new(op, &[intid, shown]));
             }
         }
