@@ -180,4 +180,32 @@ mod tests {
         look.take(&stand_in.run(&look.reads), &mut shown);
         assert_eq!(shown, here);
     }
+    #[test]
+    fn settling_brings_both_to_one_state() {
+        let [mut here, mut peer] = [(); 2].map(|_| StandIn::new(Oracle::default(), 40));
+        here.reset();
+        peer.reset();
+        for (op, intid, value) in [
+            (Op::SetEnabled, 33, 1),
+            (Op::SetPriority, 34, 0xa5),
+            (Op::SetTrigger, 35, 1),
+            (Op::SetActive, 36, 1),
+            (Op::SetRoute, 37, 0x44_0033_2211),
+            (Op::SetPending, 38, 1),
+        ] {
+            peer.machine.run(&Call::new(op, &[intid, value]));
+        }
+        here.machine.run(&Call::new(Op::SetPending, &[39, 1]));
+        let look = |one: &mut StandIn<Oracle>| ours(&mut one.machine, &mut Vec::new());
+        let mut settling = Settling::default();
+        for (intid, (now, shown)) in (32..).zip(look(&mut here).iter().zip(&look(&mut peer))) {
+            settling.add(intid, &shown.0, &now.0);
+        }
+        peer.run(&settling.peer);
+        here.run(&settling.ours);
+        let both = [look(&mut here), look(&mut peer)];
+        assert_eq!(both[0], both[1]);
+        assert!(both[0][6].0.pending && !both[0][7].0.pending);
+        assert_eq!(both[0][2].0.priority, 0x80);
+    }
 }
