@@ -100,15 +100,15 @@ impl Rattle {
         *rest.first_chunk().expect("a call is seen whole")
     }
 
-    fn byte(&mut self) -> u8 {
+    fn u8(&mut self) -> u8 {
         u8::from_le_bytes(self.take())
     }
 
-    fn half(&mut self) -> u32 {
+    fn u32(&mut self) -> u32 {
         u32::from_le_bytes(self.take())
     }
 
-    fn word(&mut self) -> u64 {
+    fn u64(&mut self) -> u64 {
         u64::from_le_bytes(self.take())
     }
 }
@@ -126,14 +126,14 @@ impl Machine for Rattle {
             self.play();
         }
         self.ran += 1;
-        let kind = self.byte();
-        let payload = self.word();
-        let count = self.half() as usize;
-        self.switch = self.byte() != 0;
-        let places = self.half();
-        let lent: Vec<u32> = (0..places).map(|_| self.half()).collect();
-        let slots = self.half();
-        self.slots = (0..slots).map(|_| self.word()).collect();
+        let kind = self.u8();
+        let payload = self.u64();
+        let count = self.u32() as usize;
+        self.switch = self.u8() != 0;
+        let places = self.u32();
+        let lent: Vec<u32> = (0..places).map(|_| self.u32()).collect();
+        let slots = self.u32();
+        self.slots = (0..slots).map(|_| self.u64()).collect();
         Answer {
             kind,
             payload,

@@ -6,16 +6,16 @@ pub fn byte_at(bytes: &[u8], at: usize) -> u64 {
     if at < bytes.len() { wide(bytes[at]) } else { 0 }
 }
 
-fn pair_at(bytes: &[u8], at: usize) -> u64 {
+fn two_at(bytes: &[u8], at: usize) -> u64 {
     byte_at(bytes, at) | byte_at(bytes, past(at, 1)) << 8
 }
 
-fn half_at(bytes: &[u8], at: usize) -> u64 {
-    pair_at(bytes, at) | pair_at(bytes, past(at, 2)) << 16
+fn four_at(bytes: &[u8], at: usize) -> u64 {
+    two_at(bytes, at) | two_at(bytes, past(at, 2)) << 16
 }
 
-pub fn word_at(bytes: &[u8], at: usize) -> u64 {
-    half_at(bytes, at) | half_at(bytes, past(at, 4)) << 32
+pub fn eight_at(bytes: &[u8], at: usize) -> u64 {
+    four_at(bytes, at) | four_at(bytes, past(at, 4)) << 32
 }
 
 // Each `put` answers the place after the number.
@@ -28,19 +28,19 @@ pub fn put_byte(n: u64, bytes: &mut [u8], at: usize) -> usize {
     next
 }
 
-fn put_pair(n: u64, bytes: &mut [u8], at: usize) -> usize {
+fn put_two(n: u64, bytes: &mut [u8], at: usize) -> usize {
     let next = put_byte(n, bytes, at);
     put_byte(n >> 8, bytes, next)
 }
 
-pub fn put_half(n: u64, bytes: &mut [u8], at: usize) -> usize {
-    let next = put_pair(n, bytes, at);
-    put_pair(n >> 16, bytes, next)
+pub fn put_four(n: u64, bytes: &mut [u8], at: usize) -> usize {
+    let next = put_two(n, bytes, at);
+    put_two(n >> 16, bytes, next)
 }
 
-pub fn put_word(n: u64, bytes: &mut [u8], at: usize) -> usize {
-    let next = put_half(n, bytes, at);
-    put_half(n >> 32, bytes, next)
+pub fn put_eight(n: u64, bytes: &mut [u8], at: usize) -> usize {
+    let next = put_four(n, bytes, at);
+    put_four(n >> 32, bytes, next)
 }
 
 pub fn past(at: usize, count: usize) -> usize {

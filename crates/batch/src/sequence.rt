@@ -5,11 +5,11 @@
 //
 // The places are those of the lent list as the call leaves it, and the slots all those of the table.
 use crate::little_endian::byte_at;
+use crate::little_endian::eight_at;
 use crate::little_endian::past;
 use crate::little_endian::put_byte;
-use crate::little_endian::put_half;
-use crate::little_endian::put_word;
-use crate::little_endian::word_at;
+use crate::little_endian::put_eight;
+use crate::little_endian::put_four;
 use distributor::distributor::DistributorState;
 use replay::answer::Answer;
 use replay::call::Call;
@@ -52,10 +52,10 @@ pub extern "C" fn batch_run(calls: &[u8], seen: &mut [u8]) -> usize {
 pub fn call_at(calls: &[u8], from: usize) -> Call {
     Call {
         op: byte_at(calls, from),
-        a: word_at(calls, past(from, 1)),
-        b: word_at(calls, past(from, 9)),
-        c: word_at(calls, past(from, 17)),
-        d: word_at(calls, past(from, 25)),
+        a: eight_at(calls, past(from, 1)),
+        b: eight_at(calls, past(from, 9)),
+        c: eight_at(calls, past(from, 17)),
+        d: eight_at(calls, past(from, 25)),
     }
 }
 
@@ -71,12 +71,12 @@ fn put_seen(
     let places = lent(call);
     let n = wide_word(d.size());
     let mut next = put_byte(answer.kind, seen, at);
-    next = put_word(answer.payload, seen, next);
-    next = put_half(answer.count as u64, seen, next);
+    next = put_eight(answer.payload, seen, next);
+    next = put_four(answer.count as u64, seen, next);
     next = put_byte(bit(d.enabled()), seen, next);
-    next = put_half(places, seen, next);
+    next = put_four(places, seen, next);
     next = put_list(list, places, seen, next);
-    next = put_half(n, seen, next);
+    next = put_four(n, seen, next);
     put_slots(d, n, seen, next)
 }
 
@@ -95,7 +95,7 @@ fn put_list(list: &[u32; PLACES], places: u64, seen: &mut [u8], at: usize) -> us
     let mut next = at;
     let mut i = 0;
     while i < PLACES && (i as u64) < places {
-        next = put_half(wide_word(list[i]), seen, next);
+        next = put_four(wide_word(list[i]), seen, next);
         i += 1;
     }
     next
@@ -106,7 +106,7 @@ fn put_slots(d: DistributorState, n: u64, seen: &mut [u8], at: usize) -> usize {
     let mut i = 0;
     while i < 988 && (i as u64) < n {
         let s = d.slots[i];
-        next = put_word(packed::pack(s), seen, next);
+        next = put_eight(packed::pack(s), seen, next);
         i += 1;
     }
     next
