@@ -5,30 +5,58 @@
 //! will come (`announce`) and runs them at once. A call that was not announced
 //! makes it run all calls since the last creation again.
 
+use std::marker::PhantomData;
+
 use crate::{
     calls::{Answer, Call, Op},
     machine::Machine,
 };
 
-// A slice crosses as a pointer and a count.
-unsafe extern "C" {
-    fn batch_run(calls: *const u64, words: usize, seen: *mut u64, room: usize) -> usize;
-    fn batch_bench(calls: *const u64, words: usize) -> u64;
+/// A slice as it crosses: a pointer and a count.
+#[repr(C)]
+struct Slice<'a, P> {
+    first: P,
+    count: usize,
+    lent: PhantomData<&'a P>,
 }
 
-/// Each call as five words.
-pub fn encode(calls: &[Call]) -> Vec<u64> {
-    let words = |call: &Call| {
-        let [a, b, c, d] = call.args;
-        [call.op as u64, a, b, c, d]
-    };
-    calls.iter().flat_map(words).collect()
+// Safe, since a `Slice` is made by the two functions below alone.
+unsafe extern "C" {
+    safe fn batch_run(calls: Slice<*const u8>, seen: Slice<*mut u8>) -> usize;
+    safe fn batch_bench(calls: Slice<*const u8>) -> u64;
+}
+
+fn lend(bytes: &[u8]) -> Slice<'_, *const u8> {
+    Slice {
+        first: bytes.as_ptr(),
+        count: bytes.len(),
+        lent: PhantomData,
+    }
+}
+
+fn lend_mut(bytes: &mut [u8]) -> Slice<'_, *mut u8> {
+    Slice {
+        first: bytes.as_mut_ptr(),
+        count: bytes.len(),
+        lent: PhantomData,
+    }
+}
+
+/// Each call as 33 bytes: its number, and its arguments of 8 bytes each, the
+/// lowest first.
+pub fn encode(calls: &[Call]) -> Vec<u8> {
+    let mut bytes = Vec::with_capacity(33 * calls.len());
+    for call in calls {
+        bytes.push(call.op as u8);
+        bytes.extend(call.args.iter().flat_map(|arg| arg.to_le_bytes()));
+    }
+    bytes
 }
 
 /// Runs a creation and then reads and writes, and hands back a sum of their
 /// answers.
-pub fn bench(calls: &[u64]) -> u64 {
-    unsafe { batch_bench(calls.as_ptr(), calls.len()) }
+pub fn bench(calls: &[u8]) -> u64 {
+    batch_bench(lend(calls))
 }
 
 #[derive(Default)]
@@ -36,8 +64,8 @@ pub struct Rattle {
     /// The calls from the last creation on, those announced included.
     calls: Vec<Call>,
     /// What the library hands back of them.
-    seen: Vec<u64>,
-    /// How many of the calls were asked for, and how many words of `seen` they
+    seen: Vec<u8>,
+    /// How many of the calls were asked for, and how many bytes of `seen` they
     /// take.
     ran: usize,
     at: usize,
@@ -57,28 +85,31 @@ impl Rattle {
     fn play(&mut self) {
         let calls = encode(&self.calls);
         loop {
-            let room = self.seen.len();
-            let words = unsafe {
-                let seen = self.seen.as_mut_ptr();
-                batch_run(calls.as_ptr(), calls.len(), seen, room)
-            };
-            if words <= room {
+            let bytes = batch_run(lend(&calls), lend_mut(&mut self.seen));
+            if bytes <= self.seen.len() {
                 return;
             }
-            self.seen.resize(words, 0);
+            self.seen.resize(bytes, 0);
         }
     }
 
-    fn word(&mut self) -> u64 {
-        self.at += 1;
-        self.seen[self.at - 1]
+    /// The next bytes.
+    fn take<const BYTES: usize>(&mut self) -> [u8; BYTES] {
+        let rest = &self.seen[self.at..];
+        self.at += BYTES;
+        *rest.first_chunk().expect("a call is seen whole")
     }
 
-    /// A count and as many words.
-    fn words(&mut self) -> Vec<u64> {
-        let count = self.word() as usize;
-        self.at += count;
-        self.seen[self.at - count..self.at].to_vec()
+    fn u8(&mut self) -> u8 {
+        u8::from_le_bytes(self.take())
+    }
+
+    fn u32(&mut self) -> u32 {
+        u32::from_le_bytes(self.take())
+    }
+
+    fn u64(&mut self) -> u64 {
+        u64::from_le_bytes(self.take())
     }
 }
 
@@ -95,12 +126,14 @@ impl Machine for Rattle {
             self.play();
         }
         self.ran += 1;
-        let kind = self.word() as u8;
-        let payload = self.word();
-        let count = self.word() as usize;
-        self.switch = self.word() != 0;
-        let lent: Vec<u32> = self.words().into_iter().map(|word| word as u32).collect();
-        self.slots = self.words();
+        let kind = self.u8();
+        let payload = self.u64();
+        let count = self.u32() as usize;
+        self.switch = self.u8() != 0;
+        let places = self.u32();
+        let lent: Vec<u32> = (0..places).map(|_| self.u32()).collect();
+        let slots = self.u32();
+        self.slots = (0..slots).map(|_| self.u64()).collect();
         Answer {
             kind,
             payload,
@@ -128,6 +161,28 @@ mod tests {
         for row in board::rows(Rattle::default) {
             assert!(row.agrees(), "{} {}: {}", row.case, row.call, row.said);
         }
+    }
+
+    #[test]
+    fn a_call_and_what_is_seen_of_it_have_the_bytes_of_the_page() {
+        let calls = encode(&[Call::new(Op::Create, &[2, 0, 0x1_0203, 0])]);
+        assert_eq!(calls.len(), 33);
+        assert_eq!(calls[..2], [0x10, 2]);
+        assert_eq!(calls[17..21], [3, 2, 1, 0]);
+        let mut seen = [0xff; 39];
+        assert_eq!(batch_run(lend(&calls), lend_mut(&mut seen)), 38);
+        let fresh = [0, 0, 0x80, 0, 0, 0, 0, 0];
+        assert_eq!(seen[..18], [0; 18]);
+        assert_eq!(seen[18..22], [2, 0, 0, 0]);
+        assert_eq!(seen[22..], [&fresh[..], &fresh, &[0xff]].concat());
+    }
+
+    #[test]
+    fn what_has_no_room_is_left_out() {
+        let calls = encode(&[Call::new(Op::Create, &[2, 0, 0x1_0000, 0])]);
+        let mut seen = [0xff; 38];
+        assert_eq!(batch_run(lend(&calls), lend_mut(&mut seen[..20])), 38);
+        assert_eq!(seen[18..], [&[2, 0][..], &[0xff; 18]].concat());
     }
 
     #[test]

@@ -16,7 +16,7 @@ use crate::{
     classify::{Found, Ran, others, register},
     difference::{CREATION, END, Kind, entry},
     peer::{Peer, read, write},
-    state::{self, Look, Spi, bank},
+    state::{self, Look, Settling, Spi, bank},
 };
 
 pub const FRAME: u64 = 0x1_0000;
@@ -142,22 +142,21 @@ impl<'a> Pair<'a> {
         differences: impl Fn(u64, &Spi, &Spi) -> Vec<Found>,
     ) -> BTreeSet<Found> {
         let mut found = BTreeSet::new();
-        let mut settled = false;
+        let mut settling = Settling::default();
         let now = state::ours(self.ours, &mut self.slots);
         let mut shown: Vec<Spi> = self.before.iter().map(|(spi, _)| *spi).collect();
         look.take(values, &mut shown);
         for (intid, ((now, _), shown)) in (32..).zip(now.iter().zip(&shown)) {
             if now != shown {
                 found.extend(differences(intid, now, shown));
-                state::settle(self.ours, self.peer, intid, shown, now);
-                settled = true;
+                settling.add(intid, shown, now);
             }
         }
-        self.before = if settled {
-            state::ours(self.ours, &mut self.slots)
-        } else {
-            now
-        };
+        self.peer.run(&settling.peer);
+        for call in &settling.ours {
+            self.ours.run(call);
+        }
+        self.before = state::ours(self.ours, &mut self.slots);
         found
     }
 }

@@ -1,5 +1,5 @@
-//! `peers [SEED] [COUNT] [--wrong read|write BANK]` holds the Distributor against
-//! QEMU's, in COUNT calls from a seed, and lists every difference by register
+//! `peers [SEED] [COUNT] [--wrong read|write BANK]` holds the Rattle Distributor
+//! against QEMU's, in COUNT calls from a seed, and lists every difference by register
 //! with the entry of docs/DIFFERENCES.md that explains it. Exits 1 if one has no
 //! entry, 2 if it cannot run.
 
@@ -8,27 +8,12 @@ use std::{
     process::{self, ExitCode},
 };
 
-use oracle::{driver::Oracle, machine::Machine};
-
-use crate::{compare::Pair, qemu::Qemu, report::Report, wrong::Wrong};
-
-mod choose;
-mod classify;
-mod compare;
-mod difference;
-mod peer;
-mod qemu;
-mod report;
-#[cfg(test)]
-mod stand_in;
-mod state;
-mod wrong;
-
-const PAGE: &str = concat!(env!("CARGO_MANIFEST_DIR"), "/../docs/DIFFERENCES.md");
+use oracle::{machine::Machine, rattle::Rattle};
+use peers::{PAGE, compare::Pair, qemu::Qemu, report::Report, wrong::Wrong};
 
 /// The machine that is held against the peer.
 fn ours() -> Box<dyn Machine> {
-    Box::new(Oracle::default())
+    Box::new(Rattle::default())
 }
 
 fn main() -> ExitCode {

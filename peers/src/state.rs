@@ -6,7 +6,7 @@ use oracle::{
     registers::{BANKS, Bank},
 };
 
-use crate::peer::{Peer, read, write};
+use crate::peer::{read, write};
 
 /// The bits of IROUTER that name a core.
 pub const AFFINITY: u64 = 0xff_00ff_ffff;
@@ -108,44 +108,50 @@ impl Look {
     }
 }
 
-/// Brings both sides to what the peer shows of an SPI: ours by the host's calls,
-/// the peer where it keeps bits of a route that ours has no place for. Pending
-/// comes last, since the others may change it.
-pub fn settle(machine: &mut dyn Machine, peer: &mut dyn Peer, intid: u64, shown: &Spi, now: &Spi) {
-    let mut host = |op: Op, value: u64, differs: bool| {
-        if differs {
-            machine.run(&Call::new(op, &[intid, value]));
+/// What brings both sides to one state of an SPI: calls of the host on ours, and
+/// writes on the peer.
+#[derive(Default)]
+pub struct Settling {
+    pub ours: Vec<Call>,
+    pub peer: Vec<Call>,
+}
+
+impl Settling {
+    /// Ours goes to what the peer shows. But the peer takes our priority, and
+    /// loses the bits of a route that ours has no place for.
+    pub fn add(&mut self, intid: u64, shown: &Spi, now: &Spi) {
+        let route = shown.route & AFFINITY;
+        let set =
+            |name: &str, width: u64, value: u64| write(bank(name).offset_of(intid), width, value);
+        if shown.priority != now.priority {
+            self.peer.push(set("IPRIORITYR", 1, now.priority.into()));
         }
-    };
-    let route = shown.route & AFFINITY;
-    host(
-        Op::SetEnabled,
-        shown.enabled.into(),
-        shown.enabled != now.enabled,
-    );
-    host(Op::SetTrigger, shown.edge.into(), shown.edge != now.edge);
-    host(
-        Op::SetActive,
-        shown.active.into(),
-        shown.active != now.active,
-    );
-    host(
-        Op::SetPriority,
-        shown.priority.into(),
-        shown.priority != now.priority,
-    );
-    host(Op::SetRoute, route, route != now.route);
-    host(Op::SetPending, shown.pending.into(), true);
-    if route != shown.route {
-        let offset = bank("IROUTER").offset_of(intid);
-        peer.run(&[write(offset, 8, route)]);
+        if shown.route != route {
+            self.peer.push(set("IROUTER", 8, route));
+        }
+        let flag = |op: Op, shown: bool, now: bool| (op, u64::from(shown), u64::from(now));
+        let fields = [
+            flag(Op::SetEnabled, shown.enabled, now.enabled),
+            flag(Op::SetTrigger, shown.edge, now.edge),
+            flag(Op::SetActive, shown.active, now.active),
+            (Op::SetRoute, route, now.route),
+            flag(Op::SetPending, shown.pending, now.pending),
+        ];
+        // Pending comes last, and after any other, since that may change it.
+        let before = self.ours.len();
+        for (op, shown, now) in fields {
+            let changed = self.ours.len() > before;
+            if shown != now || changed && op == Op::SetPending {
+                self.ours.push(Call::new(op, &[intid, shown]));
+            }
+        }
     }
 }
 
 #[cfg(test)]
 mod tests {
     use super::*;
-    use crate::stand_in::StandIn;
+    use crate::{peer::Peer as _, stand_in::StandIn};
     use oracle::driver::Oracle;
 
     #[test]
@@ -173,5 +179,33 @@ mod tests {
         let mut shown = vec![Spi::default(); count as usize];
         look.take(&stand_in.run(&look.reads), &mut shown);
         assert_eq!(shown, here);
+    }
+    #[test]
+    fn settling_brings_both_to_one_state() {
+        let [mut here, mut peer] = [(); 2].map(|_| StandIn::new(Oracle::default(), 40));
+        here.reset();
+        peer.reset();
+        for (op, intid, value) in [
+            (Op::SetEnabled, 33, 1),
+            (Op::SetPriority, 34, 0xa5),
+            (Op::SetTrigger, 35, 1),
+            (Op::SetActive, 36, 1),
+            (Op::SetRoute, 37, 0x44_0033_2211),
+            (Op::SetPending, 38, 1),
+        ] {
+            peer.machine.run(&Call::new(op, &[intid, value]));
+        }
+        here.machine.run(&Call::new(Op::SetPending, &[39, 1]));
+        let look = |one: &mut StandIn<Oracle>| ours(&mut one.machine, &mut Vec::new());
+        let mut settling = Settling::default();
+        for (intid, (now, shown)) in (32..).zip(look(&mut here).iter().zip(&look(&mut peer))) {
+            settling.add(intid, &shown.0, &now.0);
+        }
+        peer.run(&settling.peer);
+        here.run(&settling.ours);
+        let both = [look(&mut here), look(&mut peer)];
+        assert_eq!(both[0], both[1]);
+        assert!(both[0][6].0.pending && !both[0][7].0.pending);
+        assert_eq!(both[0][2].0.priority, 0x80);
     }
 }

@@ -1,4 +1,5 @@
 // Reads and writes on one Distributor, timed from outside (docs/SPEED.md).
+use crate::little_endian::past;
 use crate::sequence::CALL;
 use crate::sequence::PLACES;
 use crate::sequence::call_at;
@@ -11,13 +12,13 @@ use replay::number::wide_word;
 // The first call is a creation, and each of the others a read or a write, which is lent all places. Answers a sum of all that they
 // answered, so that none can be left out.
 #[no_mangle]
-pub extern "C" fn batch_bench(calls: &[u64]) -> u64 {
+pub extern "C" fn batch_bench(calls: &[u8]) -> u64 {
     let created = create::create(call_at(calls, 0));
     let mut list = [0u32; PLACES];
     accesses(created.state, calls, &mut list)
 }
 
-fn accesses(first: DistributorState, calls: &[u64], list: &mut [u32; PLACES]) -> u64 {
+fn accesses(first: DistributorState, calls: &[u8], list: &mut [u32; PLACES]) -> u64 {
     let mut d = first;
     let mut sum = 0;
     let mut from = CALL;
@@ -33,7 +34,7 @@ fn accesses(first: DistributorState, calls: &[u64], list: &mut [u32; PLACES]) ->
             let written = wrote.answer;
             sum = add_list(sum, guest::written(written), list);
         }
-        from = std::num::wrapping_add_usize(from, CALL);
+        from = past(from, CALL);
         left -= 1;
     }
     sum

@@ -32,12 +32,12 @@ fn main() {
     );
     for spis in [988, 40] {
         let calls = mixed(spis, count);
-        let words = rattle::encode(&calls);
+        let bytes = rattle::encode(&calls);
         let mut times = [Vec::new(), Vec::new()];
         for _ in 0..repeats {
             let sums = [
                 timed(&mut times[0], || run(&calls)),
-                timed(&mut times[1], || rattle::bench(&words)),
+                timed(&mut times[1], || rattle::bench(&bytes)),
             ];
             if sums[0] != sums[1] {
                 println!(

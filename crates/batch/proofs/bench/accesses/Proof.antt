@@ -36,8 +36,8 @@ written-requires c κs = tt
 add-list-requires : tie.Need-add-list-requires Inv-loop μ-loop
 add-list-requires c κs = tt
 
-wrapping-add-usize-requires : tie.Need-wrapping-add-usize-requires Inv-loop μ-loop
-wrapping-add-usize-requires c κs = tt
+past-requires : tie.Need-past-requires Inv-loop μ-loop
+past-requires c κs = tt
 
 sub-left : tie.Need-sub-left Inv-loop μ-loop
 sub-left c = search needs
@@ -66,7 +66,7 @@ accesses-spec =
     write-requires
     written-requires
     add-list-requires
-    wrapping-add-usize-requires
+    past-requires
     sub-left
     loop-less
     loop-again

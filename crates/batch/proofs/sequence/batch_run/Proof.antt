@@ -1,4 +1,4 @@
--- `batch_run` is safe and ends: each turn leaves a call less. The words stay as many.
+-- `batch_run` is safe and ends: each turn leaves a call less. The bytes stay as many.
 use borrow.Author.Needs.{needs}
 use mathlib.Core.Path.{_≡_, _∙_, refl}
 use lib.ListN.{length}
@@ -29,8 +29,8 @@ run-requires c κs = tt
 put-seen-requires : tie.Need-put-seen-requires Inv-loop μ-loop
 put-seen-requires c κs = tt
 
-wrapping-add-usize-requires : tie.Need-wrapping-add-usize-requires Inv-loop μ-loop
-wrapping-add-usize-requires c κs = tt
+past-requires : tie.Need-past-requires Inv-loop μ-loop
+past-requires c κs = tt
 
 sub-left : tie.Need-sub-left Inv-loop μ-loop
 sub-left c = search needs
@@ -59,7 +59,7 @@ batch-run-spec =
     slice-aggregate-run
     run-requires
     put-seen-requires
-    wrapping-add-usize-requires
+    past-requires
     sub-left
     loop-less
     loop-again

@@ -1,4 +1,4 @@
--- `put_list` is safe and ends: each turn takes a place. The words stay as many.
+-- `put_list` is safe and ends: each turn takes a place. The bytes stay as many.
 use Prim.Native.Nat.{_-_}
 use borrow.Author.Needs.{needs}
 use native.Mathlib.Omega.{arith}
@@ -25,8 +25,8 @@ element-copy-out-wide-word c = search needs
 wide-word-requires : tie.Need-wide-word-requires Inv-loop μ-loop
 wide-word-requires c κs = tt
 
-put-requires : tie.Need-put-requires Inv-loop μ-loop
-put-requires c κs = tt
+put-four-requires : tie.Need-put-four-requires Inv-loop μ-loop
+put-four-requires c κs = tt
 
 add-i : tie.Need-add-i Inv-loop μ-loop
 add-i c = omega arith
@@ -35,7 +35,7 @@ loop-less : tie.Need-loop-less Inv-loop μ-loop
 loop-less c = omega arith
 
 loop-again : tie.Need-loop-again Inv-loop μ-loop
-loop-again c = c .before .before .put .kept .1 .0 ∙ c .before .before .before .before .before .before .before .before .loop .inv
+loop-again c = c .before .before .put-four .kept .1 .0 ∙ c .before .before .before .before .before .before .before .before .loop .inv
 
 same-length : tie.Need-same-length Inv-loop μ-loop
 same-length c = c .before .before .loop .inv
@@ -59,7 +59,7 @@ put-list-spec =
     mul-wide-word
     element-copy-out-wide-word
     wide-word-requires
-    put-requires
+    put-four-requires
     add-i
     loop-less
     loop-again
