@@ -1,5 +1,5 @@
-// The board's examples, run on the code: the twelve cases on K, and those that are run besides. What is printed is held to the file
-// stdout beside src/.
+// The board's examples, run on the code: the twelve cases on K, those that are run besides, and the lessons. What is printed is held
+// to the file stdout beside src/.
 use distributor::access::ReadAnswer;
 use distributor::create::CreateAnswer;
 use distributor::create::Created;
@@ -12,6 +12,7 @@ use registers::controller::ControllerConfig;
 use registers::controller::GicV3SpiOwnership;
 use registers::register::AccessWidth;
 
+mod lessons;
 mod show;
 
 // Frame 0x10000, no ITS, the flags clear.
@@ -190,4 +191,5 @@ fn main() {
     cases_10_and_11();
     case_12();
     run_also();
+    lessons::run();
 }
