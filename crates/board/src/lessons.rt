@@ -82,29 +82,45 @@ fn high(d: DistributorState) -> DistributorState {
     host(d, 33, Operation::SetLevel(true))
 }
 
+fn cleared(d: DistributorState, raw: u32) -> DistributorState {
+    host(d, raw, Operation::SetPending(false))
+}
+
 // Whether 33 pends again once the core has finished.
 fn finished(d: DistributorState) {
     pending(host(d, 33, Operation::FinishInflight), 33);
 }
 
-// While a core has 33 active, its line is still high, or rises; before that, its line rises, or a pulse comes.
-fn redelivery() {
-    show::text(b"\nlesson 5:");
-    let d = in_flight();
+// The line is still high, or rises, while a core has 33 active.
+fn while_active(d: DistributorState) {
     finished(high(active(high(d))));
     finished(high(active(d)));
+}
+
+// The line rises, or a pulse comes, before that.
+fn before_active(d: DistributorState) {
     pending(active(high(d)), 33);
     pending(active(host(d, 33, Operation::Pulse)), 33);
 }
 
-// A line that rises and a clearing, in either order: on one SPI, and on two.
+fn redelivery() {
+    show::text(b"\nlesson 5:");
+    let d = in_flight();
+    while_active(d);
+    before_active(d);
+}
+
+// 33's line rises and this SPI is cleared, in either order.
+fn either_order(raw: u32) {
+    let d = waiting(64);
+    pending(cleared(high(d), raw), raw);
+    pending(high(cleared(d, raw)), raw);
+}
+
 fn order() {
     show::text(b"\nlesson 6:");
-    let d = waiting(64);
-    pending(host(high(d), 33, Operation::SetPending(false)), 33);
-    pending(high(host(d, 33, Operation::SetPending(false))), 33);
-    pending(host(high(d), 64, Operation::SetPending(false)), 64);
-    pending(high(host(d, 64, Operation::SetPending(false))), 64);
+    either_order(33);
+    either_order(64);
     show::text(b"\n");
 }
 

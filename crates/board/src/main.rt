@@ -86,17 +86,22 @@ fn write(d: DistributorState, offset: u64, width: AccessWidth, value: u64) -> Di
     w.state
 }
 
-fn cases_1_to_5() {
-    let d = k();
+fn case_1() {
     show::text(b"1:");
     show_created(DistributorState::new(plain(GicV3SpiOwnership::Explicit), 988));
     show_created(DistributorState::new(plain(GicV3SpiOwnership::Explicit), 989));
+}
+
+fn cases_2_and_3(d: DistributorState) {
     show::text(b"\n2:");
     read(d, 0xffe8, AccessWidth::Dword);
     read(d, 0xffe8, AccessWidth::Byte);
     show::text(b"\n3:");
     read(d, 0xffe9, AccessWidth::Byte);
     read(d, 0x102, AccessWidth::Dword);
+}
+
+fn cases_4_and_5(d: DistributorState) {
     show::text(b"\n4:");
     read(d, 0xffff_ffff_ffff_fffc, AccessWidth::Dword);
     show::text(b"\n5:");
@@ -185,7 +190,9 @@ fn run_also() {
 }
 
 fn main() {
-    cases_1_to_5();
+    case_1();
+    cases_2_and_3(k());
+    cases_4_and_5(k());
     cases_6_and_7();
     cases_8_and_9();
     cases_10_and_11();
