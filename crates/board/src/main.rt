@@ -108,11 +108,14 @@ fn cases_4_and_5(d: DistributorState) {
     read(d, 0x4, AccessWidth::Dword);
 }
 
-fn cases_6_and_7() {
+fn case_6() {
     show::text(b"\n6:");
     let d = write(k(), 0x108, AccessWidth::Dword, 0x1ff);
     show::text(b", enabled");
     read(d, 0x108, AccessWidth::Dword);
+}
+
+fn case_7() {
     show::text(b"\n7:");
     let d = write(k(), 0x17c, AccessWidth::Dword, 0xf000_0000);
     show::text(b", enabled");
@@ -129,12 +132,15 @@ fn cases_8_and_9() {
     read(d, 0x6208, AccessWidth::Qword);
 }
 
-fn cases_10_and_11() {
+fn case_10() {
     show::text(b"\n10:");
     let high = k().set_level(spi(33), true);
     let d = write(high.state, 0x284, AccessWidth::Dword, 2);
     show::text(b", 33 pending");
     show_flag(d.pending(spi(33)));
+}
+
+fn case_11() {
     show::text(b"\n11:");
     let on = k().set_enabled(spi(33), true);
     let d = on.state;
@@ -169,7 +175,7 @@ fn id_field(lpi_limit: u32) {
     }
 }
 
-fn run_also() {
+fn typers() {
     show::text(b"\nTYPER at 0 and 988:");
     read(
         made(plain(GicV3SpiOwnership::Explicit), 0),
@@ -181,6 +187,10 @@ fn run_also() {
         0x4,
         AccessWidth::Dword,
     );
+}
+
+fn run_also() {
+    typers();
     show::text(b"\nid field at 65535 and 65536:");
     id_field(65535);
     id_field(65536);
@@ -189,14 +199,20 @@ fn run_also() {
     show::text(b"\n");
 }
 
-fn main() {
+fn cases() {
     case_1();
     cases_2_and_3(k());
     cases_4_and_5(k());
-    cases_6_and_7();
+    case_6();
+    case_7();
     cases_8_and_9();
-    cases_10_and_11();
+    case_10();
+    case_11();
     case_12();
+}
+
+fn main() {
+    cases();
     run_also();
     lessons::run();
 }
