@@ -1,5 +1,5 @@
-// The board's examples, run on the code: the twelve cases on K, and those that are run besides. What is printed is held to the file
-// stdout beside src/.
+// The board's examples, run on the code: the twelve cases on K, those that are run besides, and the lessons. What is printed is held
+// to the file stdout beside src/.
 use distributor::access::ReadAnswer;
 use distributor::create::CreateAnswer;
 use distributor::create::Created;
@@ -12,6 +12,7 @@ use registers::controller::ControllerConfig;
 use registers::controller::GicV3SpiOwnership;
 use registers::register::AccessWidth;
 
+mod lessons;
 mod show;
 
 // Frame 0x10000, no ITS, the flags clear.
@@ -85,28 +86,36 @@ fn write(d: DistributorState, offset: u64, width: AccessWidth, value: u64) -> Di
     w.state
 }
 
-fn cases_1_to_5() {
-    let d = k();
+fn case_1() {
     show::text(b"1:");
     show_created(DistributorState::new(plain(GicV3SpiOwnership::Explicit), 988));
     show_created(DistributorState::new(plain(GicV3SpiOwnership::Explicit), 989));
+}
+
+fn cases_2_and_3(d: DistributorState) {
     show::text(b"\n2:");
     read(d, 0xffe8, AccessWidth::Dword);
     read(d, 0xffe8, AccessWidth::Byte);
     show::text(b"\n3:");
     read(d, 0xffe9, AccessWidth::Byte);
     read(d, 0x102, AccessWidth::Dword);
+}
+
+fn cases_4_and_5(d: DistributorState) {
     show::text(b"\n4:");
     read(d, 0xffff_ffff_ffff_fffc, AccessWidth::Dword);
     show::text(b"\n5:");
     read(d, 0x4, AccessWidth::Dword);
 }
 
-fn cases_6_and_7() {
+fn case_6() {
     show::text(b"\n6:");
     let d = write(k(), 0x108, AccessWidth::Dword, 0x1ff);
     show::text(b", enabled");
     read(d, 0x108, AccessWidth::Dword);
+}
+
+fn case_7() {
     show::text(b"\n7:");
     let d = write(k(), 0x17c, AccessWidth::Dword, 0xf000_0000);
     show::text(b", enabled");
@@ -123,12 +132,15 @@ fn cases_8_and_9() {
     read(d, 0x6208, AccessWidth::Qword);
 }
 
-fn cases_10_and_11() {
+fn case_10() {
     show::text(b"\n10:");
     let high = k().set_level(spi(33), true);
     let d = write(high.state, 0x284, AccessWidth::Dword, 2);
     show::text(b", 33 pending");
     show_flag(d.pending(spi(33)));
+}
+
+fn case_11() {
     show::text(b"\n11:");
     let on = k().set_enabled(spi(33), true);
     let d = on.state;
@@ -163,7 +175,7 @@ fn id_field(lpi_limit: u32) {
     }
 }
 
-fn run_also() {
+fn typers() {
     show::text(b"\nTYPER at 0 and 988:");
     read(
         made(plain(GicV3SpiOwnership::Explicit), 0),
@@ -175,6 +187,10 @@ fn run_also() {
         0x4,
         AccessWidth::Dword,
     );
+}
+
+fn run_also() {
+    typers();
     show::text(b"\nid field at 65535 and 65536:");
     id_field(65535);
     id_field(65536);
@@ -183,11 +199,20 @@ fn run_also() {
     show::text(b"\n");
 }
 
-fn main() {
-    cases_1_to_5();
-    cases_6_and_7();
+fn cases() {
+    case_1();
+    cases_2_and_3(k());
+    cases_4_and_5(k());
+    case_6();
+    case_7();
     cases_8_and_9();
-    cases_10_and_11();
+    case_10();
+    case_11();
     case_12();
+}
+
+fn main() {
+    cases();
     run_also();
+    lessons::run();
 }
