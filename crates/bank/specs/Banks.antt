@@ -1,4 +1,4 @@
--- One rule for every bank of registers. A bank is what it shows of an SPI, what a written field does, whether a write lists
+-- The banks of registers, row by row. A bank is what it shows of a record, which written fields act, whether a write lists
 -- candidates, and what is refused beyond the table.
 use Prim.Native.Nat.{ℕ, zero, suc, _+_, _-_, _*_, _/_, _%_, _^_}
 use mathlib.Core.Bool.{Bool, true, false, not, _&&_, cond}
@@ -126,7 +126,7 @@ ignoresBeyond Irouter = true
 abbrev pub writeRefuses : Bank → ℕ → Bool
 writeRefuses b f = not (ignoresBeyond b) && acts b f
 
--- ---- the bank rule: m fields from INTID lo on, the lowest INTID in the lowest bits
+-- ---- fields: those of the INTIDs from lo on, the lowest INTID in the lowest bits
 
 -- the field for INTID i in a value whose lowest field is INTID lo's
 abbrev pub field : Bank → ℕ → ℕ → ℕ → ℕ

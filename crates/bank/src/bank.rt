@@ -1,4 +1,5 @@
-// What each bank shows of an SPI, and what a written field does to it. No table is in here.
+// The banks: what each shows of a record, which written fields act, whether a write lists, and what is refused beyond the table. No
+// table is in here.
 use identifiers::types::TriggerMode;
 use interrupt::interrupt::InterruptRecord;
 use interrupt::interrupt::Route;

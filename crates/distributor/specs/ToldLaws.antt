@@ -2,7 +2,9 @@
 -- so that a promise about what is told leaves no second answer.
 use Prim.Native.Nat.{ℕ}
 use mathlib.Core.Path.{_≡_, refl, sym, ap, _∙_}
+use mathlib.Core.List.{[], _∷_}
 use mathlib.Core.Bool.{Bool, true, false, not}
+use Rattle.identifiers.specs.Answer.{done}
 use Rattle.identifiers.specs.AnswerLaws.{told-refusal}
 use Rattle.identifiers.specs.Affinity.{fromMpidr, mpidrOf}
 use Rattle.identifiers.specs.AffinityLaws.{Bytes, fromMpidr-mpidr}
@@ -23,8 +25,9 @@ use Rattle.distributor.specs.declared.questions.PriorityOf.{PriorityOf}
 use Rattle.distributor.specs.declared.questions.TriggerOf.{TriggerOf}
 use Rattle.distributor.specs.declared.questions.MaskOf.{MaskOf}
 use Rattle.distributor.specs.declared.questions.RouteOf.{RouteOf}
+use Rattle.distributor.specs.Calls.{Reply}
 use Rattle.distributor.specs.Told.{toldRead, toldWrite}
-use Rattle.distributor.specs.Create.{toldCreate}
+use Rattle.distributor.specs.Create.{toldCreate, switchAnswer}
 use Rattle.distributor.specs.Questions.{toldNumber, toldFlag, toldState, toldPriority, toldTrigger, toldRoute, toldMask}
 
 pub told-read : (a b : ReadAnswer) → toldRead a ≡ toldRead b → a ≡ b
@@ -52,6 +55,12 @@ bit-same true true e = refl
 bit-same true false e = cc
 bit-same false true e = cc
 bit-same false false e = refl
+
+pub told-switch : (x y : Bool) → switchAnswer x ≡ switchAnswer y → x ≡ y
+told-switch x y e =
+    let q : done (bit x ∷ []) ≡ done (bit y ∷ []) = ap (λ (r : Reply). r .answer) e in
+    let p : bit x ≡ bit y = cc in
+    bit-same x y p
 
 trigger-same : (x y : TriggerMode) → bit (not (levelOf x)) ≡ bit (not (levelOf y)) → x ≡ y
 trigger-same Edge Edge e = refl

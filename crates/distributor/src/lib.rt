@@ -1,4 +1,4 @@
-// The GICv3 Distributor: its registers, its table of SPIs, claims, routes and candidates.
+// The GICv3 Distributor: its table of SPIs, and every call on it.
 pub mod access;
 pub mod calls;
 pub mod create;

@@ -1,4 +1,3 @@
 pub mod Board
-pub mod Corners
 pub mod OrderExamples
 pub mod IsolationExamples

@@ -57,8 +57,12 @@ pub record NamedOnK : Type 0 where
   pub control : (spis (writes 0 2) ≡ from 32 40) × (spis (writes 0 1) ≡ []) × (spis (read 0 Dword) ≡ [])
   pub switch : (named K (writes 0 2) theSwitch ≡ true) × (named K (writes 0 1) theSwitch ≡ true) × (named K (read 0 Dword) theSwitch ≡ true) × (named K isEnabled theSwitch ≡ true) × (named K (rollback true) theSwitch ≡ true)
   pub no-switch : (named K (read 0x104 Dword) theSwitch ≡ false) × (named K (writes 0x104 2) theSwitch ≡ false) × (named K (read 0 Byte) theSwitch ≡ false)
-  -- TYPER, an offset with no register, and the creation of another Distributor
-  pub rest : (namesOf (read 0x4 Dword) ≡ ([], false)) × (namesOf (writes 0x800 2) ≡ ([], false)) × (namesOf (create (K .config) 988) ≡ ([], false))
+  -- the rollback call and the question whether the switch is on name no SPI
+  pub switch-alone : (spis isEnabled ≡ []) × (spis (rollback true) ≡ [])
+  -- registers with no INTID, an offset with no register, and the creation of another Distributor
+  pub rest-reads : (namesOf (read 0xffe8 Dword) ≡ ([], false)) × (namesOf (read 0x4 Dword) ≡ ([], false)) × (namesOf (read 0x8 Dword) ≡ ([], false)) × (namesOf (read 0x800 Dword) ≡ ([], false))
+  pub rest-writes : (namesOf (writes 0xffe8 2) ≡ ([], false)) × (namesOf (writes 0x4 2) ≡ ([], false)) × (namesOf (writes 0x8 2) ≡ ([], false)) × (namesOf (writes 0x800 2) ≡ ([], false))
+  pub rest-create : namesOf (create (K .config) 988) ≡ ([], false)
 
 pub named-on-K : NamedOnK
 unfolding names step decode
@@ -75,7 +79,10 @@ named-on-K =
       control = (refl, refl, refl);
       switch = (refl, refl, refl, refl, refl);
       no-switch = (refl, refl, refl);
-      rest = (refl, refl, refl);
+      switch-alone = (refl, refl);
+      rest-reads = (refl, refl, refl, refl);
+      rest-writes = (refl, refl, refl, refl);
+      rest-create = refl;
     }
 
 -- ---- calls that may change places

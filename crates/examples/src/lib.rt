@@ -1,1 +1,1 @@
-// Examples that are computed from the definitions. There is no code here.
+// The board's examples, and those of order and of a guest's reach, computed from the definitions. There is no code here.

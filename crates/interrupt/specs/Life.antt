@@ -25,13 +25,13 @@ flags e p a i d l r = record { intid = r .intid; enabled = e; pending = p; activ
 abbrev pub settings : Priority → TriggerMode → Bool → GicAffinity → Bool → ℕ → InterruptRecord → InterruptRecord
 settings p t routed route masked mask r = record { intid = r .intid; enabled = r .enabled; pending = r .pending; active = r .active; inflight = r .inflight; «redelivery_pending» = r .«redelivery_pending»; «line_asserted» = r .«line_asserted»; priority = p; trigger = t; routed = routed; route = route; masked = masked; «cpu_target_mask» = mask }
 
--- the record with one of these at another value
 abbrev pub redelivery : InterruptRecord → Bool
 redelivery r = r .«redelivery_pending»
 
 abbrev pub line : InterruptRecord → Bool
 line r = r .«line_asserted»
 
+-- the record with one of these at another value
 abbrev pub enabledAs : Bool → InterruptRecord → InterruptRecord
 enabledAs b r = flags b (r .pending) (r .active) (r .inflight) (redelivery r) (line r) r
 

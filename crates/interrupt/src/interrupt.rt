@@ -180,10 +180,11 @@ impl InterruptRecord {
         self
     }
 
-    pub fn finish_inflight(self) -> Self
+    pub fn finish_inflight(mut self) -> Self
         ensures { λ r. ⌜ r ≡ deactivated false self ⌝ }
     {
-        self.deactivate_inflight(false)
+        self = self.deactivate_inflight(false);
+        self
     }
 
     pub fn deactivate_inflight(mut self, pending_in_delivery: bool) -> Self

@@ -1,10 +1,13 @@
-// The flags of a record and its trigger. In flight, the redelivery mark and the line are hidden: they are seen by the operations.
+// The flags of a record and its trigger.
 use identifiers::types::IntId;
 use identifiers::types::InterruptState;
 use identifiers::types::SpiId;
 use identifiers::types::TriggerMode;
 use interrupt::interrupt::InterruptRecord;
 use libc::STDOUT_FILENO;
+use operation::hidden::inflight;
+use operation::hidden::line;
+use operation::hidden::redelivery;
 ghost use mathlib.Core.Path.{_≡_};
 ghost use Rattle.identifiers.specs.State.{levelOf};
 
@@ -19,28 +22,6 @@ pub struct Flags {
     redelivery: bool,
     line: bool,
     level: bool,
-}
-
-fn inflight(irq: InterruptRecord) -> bool
-    ensures { λ r. ⌜ r ≡ irq .inflight ⌝ }
-{
-    irq.set_state(InterruptState::Inactive)
-        .set_pending(false)
-        .has_delivery_state()
-}
-
-fn redelivery(irq: InterruptRecord) -> bool
-    ensures { λ r. ⌜ r ≡ irq .«redelivery_pending» ⌝ }
-{
-    irq.set_state(InterruptState::Inactive)
-        .cancel_inflight()
-        .pending()
-}
-
-fn line(irq: InterruptRecord) -> bool
-    ensures { λ r. ⌜ r ≡ irq .«line_asserted» ⌝ }
-{
-    irq.set_pending(false).set_enabled(true).pending()
 }
 
 impl Flags {

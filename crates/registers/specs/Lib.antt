@@ -5,3 +5,4 @@ pub mod Identity
 pub mod IdentityLaws
 pub mod MapLaws
 pub mod WidthLaws
+pub mod PlaceAnswers

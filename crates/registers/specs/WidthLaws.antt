@@ -1,4 +1,4 @@
--- A register and what it shows fit the widths that reach it.
+-- What an access covers fits its width.
 use Prim.Native.Nat.{ℕ, zero, suc, _-_, _*_, _/_, _≤_, _<_}
 use mathlib.Core.Path.{_≡_, refl, ap, subst}
 use mathlib.Core.Bool.{Bool, true, false, cond}

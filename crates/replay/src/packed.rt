@@ -1,15 +1,15 @@
-// A slot as a number: one SPI's record, its claim and its fixed mark (docs/ORACLE.md, "The list"). A record's fields are hidden, so
-// it is seen by its operations.
+// A slot as a number: one SPI's record, its claim and its fixed mark (docs/ORACLE.md, "The list").
 use crate::number::bit;
 use crate::number::of_trigger;
 use crate::number::wide;
 use identifiers::types::GicAffinity;
-use identifiers::types::InterruptState;
 use interrupt::interrupt::InterruptRecord;
 use interrupt::interrupt::Route;
 use interrupt::interrupt::TargetMask;
+use operation::hidden::inflight;
+use operation::hidden::line;
+use operation::hidden::redelivery;
 use slot::slot::Slot;
-ghost use mathlib.Core.Path.{_≡_};
 
 const CLAIMED: u64 = 0x80;
 
@@ -44,28 +44,6 @@ fn flags(irq: InterruptRecord) -> u64 {
         | bit(redelivery(irq)) << 4
         | bit(line(irq)) << 5
         | of_trigger(irq.trigger()) << 6
-}
-
-fn inflight(irq: InterruptRecord) -> bool
-    ensures { λ r. ⌜ r ≡ irq .inflight ⌝ }
-{
-    irq.set_state(InterruptState::Inactive)
-        .set_pending(false)
-        .has_delivery_state()
-}
-
-fn redelivery(irq: InterruptRecord) -> bool
-    ensures { λ r. ⌜ r ≡ irq .«redelivery_pending» ⌝ }
-{
-    irq.set_state(InterruptState::Inactive)
-        .cancel_inflight()
-        .pending()
-}
-
-fn line(irq: InterruptRecord) -> bool
-    ensures { λ r. ⌜ r ≡ irq .«line_asserted» ⌝ }
-{
-    irq.set_pending(false).set_enabled(true).pending()
 }
 
 fn route(irq: InterruptRecord) -> u64 {

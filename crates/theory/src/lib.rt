@@ -1,1 +1,1 @@
-// Theory that knows nothing of interrupts: lists place by place. It has no code; specs/ holds its definitions and laws.
+// Lists place by place, runs of calls and their reordering: definitions and laws that know nothing of interrupts. There is no code here.

@@ -4,8 +4,8 @@ use mathlib.Core.Bool.{true, false}
 use borrow.Author.Needs.{needs}
 use Rattle.interrupt.specs.declared.interrupt.InterruptRecord.{InterruptRecord}
 use Rattle.interrupt.specs.Life.{enabledTo, pendingTo}
-use Rattle.life.proofs.flags.line.Statement.{statement}
-use Rattle.life.proofs.flags.line.Tie as tie
+use Rattle.operation.proofs.hidden.line.Statement.{statement}
+use Rattle.operation.proofs.hidden.line.Tie as tie
 
 seen : (r : InterruptRecord) → enabledTo true (pendingTo false r) .pending ≡ r .«line_asserted»
 unfolding enabledTo pendingTo

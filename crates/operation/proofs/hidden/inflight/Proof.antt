@@ -5,8 +5,8 @@ use borrow.Author.Needs.{needs}
 use Rattle.interrupt.specs.declared.interrupt.InterruptRecord.{InterruptRecord}
 use Rattle.identifiers.specs.declared.types.InterruptState.the-variants.{Inactive}
 use Rattle.interrupt.specs.Life.{held, pendingTo, stateTo}
-use Rattle.replay.proofs.packed.inflight.Statement.{statement}
-use Rattle.replay.proofs.packed.inflight.Tie as tie
+use Rattle.operation.proofs.hidden.inflight.Statement.{statement}
+use Rattle.operation.proofs.hidden.inflight.Tie as tie
 
 seen : (r : InterruptRecord) → held (pendingTo false (stateTo Inactive r)) ≡ r .inflight
 unfolding held pendingTo stateTo

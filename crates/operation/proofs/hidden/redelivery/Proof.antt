@@ -4,8 +4,8 @@ use borrow.Author.Needs.{needs}
 use Rattle.interrupt.specs.declared.interrupt.InterruptRecord.{InterruptRecord}
 use Rattle.identifiers.specs.declared.types.InterruptState.the-variants.{Inactive}
 use Rattle.interrupt.specs.Life.{cancelled, landed, stateTo}
-use Rattle.replay.proofs.packed.redelivery.Statement.{statement}
-use Rattle.replay.proofs.packed.redelivery.Tie as tie
+use Rattle.operation.proofs.hidden.redelivery.Statement.{statement}
+use Rattle.operation.proofs.hidden.redelivery.Tie as tie
 
 seen : (r : InterruptRecord) → cancelled (stateTo Inactive r) .pending ≡ r .«redelivery_pending»
 unfolding cancelled landed stateTo
