@@ -1,22 +1,18 @@
--- More examples beside the board's twelve: widths and offsets, which banks list, the table's end in both modes, and the corners of
--- claims.
-use Prim.Native.Nat.{ℕ, _+_, _^_}
+-- More examples beside the board's twelve: widths and offsets, the table's end in both modes, and the corners of claims.
+use Prim.Native.Nat.{_+_, _^_}
 use mathlib.Core.Path.{_≡_, refl}
 use mathlib.Core.Bool.{true}
 use mathlib.Core.List.{List, [], _∷_}
-use lib.ListN.{length, replicate}
-use Rattle.theory.specs.Places.{laid}
 use Rattle.theory.specs.Runs.{run}
 use Rattle.identifiers.specs.Answer.{Answer, done, refused}
 use Rattle.identifiers.specs.Affinity.{affinity}
-use Rattle.interrupt.specs.Life.{fresh, routeIn, maskIn, deliverableIn, enabledTo, pendingTo, activeTo, stateTo, completed, triggerTo, routeTo, unrouted, priorityTo, maskTo}
+use Rattle.interrupt.specs.Life.{fresh, routeIn, maskIn, deliverableIn, enabledTo, triggerTo, routeTo, unrouted, priorityTo, maskTo}
 use Rattle.identifiers.specs.declared.types.TriggerMode.the-variants.{Edge}
-use Rattle.identifiers.specs.declared.types.InterruptState.the-variants.{ActivePending}
-use Rattle.operation.specs.declared.operation.Operation.the-variants.{SetEnabled, SetPending, SetState, SetTrigger, SetCpuTargetMask}
+use Rattle.operation.specs.declared.operation.Operation.the-variants.{SetEnabled, SetTrigger, SetCpuTargetMask}
 use Rattle.distributor.specs.declared.distributor.DistributorState.{DistributorState}
-use Rattle.registers.specs.declared.register.AccessWidth.the-variants.{Byte, Dword, Qword}
+use Rattle.registers.specs.declared.register.AccessWidth.the-variants.{Byte, Dword}
 use Rattle.registers.specs.Registers.{decode}
-use Rattle.distributor.specs.Calls.{Call, read, write, claimSoftware, claimPhysical, release, operate, ask, route, trigger, enabled, cpuTargetMask, reply, step, created}
+use Rattle.distributor.specs.Calls.{Call, read, claimSoftware, claimPhysical, release, operate, ask, route, trigger, enabled, cpuTargetMask, reply, step, created}
 use Rattle.examples.specs.Board.{K, Full}
 use Rattle.examples.specs.OrderExamples.{writes}
 
@@ -41,23 +37,6 @@ pub record Accesses : Type 0 where
   pub wide-value : (reply (writes 0x104 (2 ^ 32 + 2)) K ≡ reply (writes 0x104 2) K) × (step (writes 0x104 (2 ^ 32 + 2)) K ≡ step (writes 0x104 2) K)
   -- an unowned SPI ignores the guest's writes and reads 0
   pub unowned : (told (writes 0x104 4) K ≡ done (0 ∷ [])) × (step (writes 0x104 4) K ≡ K) × (then (operate (SetEnabled true) 34 ∷ []) (read 0x104 Dword) K ≡ done (0 ∷ []))
-
--- which banks list: 33 is owned, enabled, pending and active
-abbrev Ready : DistributorState
-Ready = run step (operate (SetEnabled true) 33 ∷ operate (SetState ActivePending) 33 ∷ []) K
-
--- what a write lists of the 40 places that were lent
-abbrev lists : Call → List ℕ → Type 0
-lists c l = reply c Ready ≡ record { answer = done (length l ∷ []); list = laid l (replicate 40 0) }
-
-pub record Listings : Type 0 where
-  pub enable : lists (writes 0x104 2) (33 ∷ []) × lists (writes 0x184 2) []
-  pub pend : lists (writes 0x204 2) (33 ∷ []) × lists (writes 0x284 2) []
-  pub activate : lists (writes 0x304 2) [] × lists (writes 0x384 2) (33 ∷ [])
-  pub others : lists (writes 0x84 2) [] × lists (writes 0x420 0) [] × lists (writes 0xc08 0) []
-  pub route : lists (write 0x6108 Qword 1 (replicate 40 0)) (33 ∷ [])
-  -- two in one write, the lowest first; 34 is ready too, and not the guest's
-  pub order : reply (writes 0x104 6) (run step (operate (SetEnabled true) 34 ∷ operate (SetPending true) 34 ∷ claimSoftware 34 ∷ []) Ready) ≡ record { answer = done (2 ∷ []); list = 33 ∷ 34 ∷ replicate 38 0 }
 
 -- the table's end, in both modes
 pub record TableEnd : Type 0 where
@@ -87,18 +66,6 @@ accesses =
       route-byte = (refl, refl);
       wide-value = (refl, refl);
       unowned = (refl, refl, refl);
-    }
-
-pub listings : Listings
-unfolding reply step decode fresh deliverableIn enabledTo pendingTo activeTo stateTo triggerTo routeTo priorityTo completed
-listings =
-    record {
-      enable = (refl, refl);
-      pend = (refl, refl);
-      activate = (refl, refl);
-      others = (refl, refl, refl);
-      route = refl;
-      order = refl;
     }
 
 pub table-end : TableEnd

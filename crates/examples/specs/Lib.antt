@@ -1,3 +1,4 @@
 pub mod Board
 pub mod OrderExamples
 pub mod IsolationExamples
+pub mod Listings

@@ -1,0 +1,47 @@
+-- Which banks list: writes to an SPI that is ready, bank by bank.
+use Prim.Native.Nat.{ℕ}
+use mathlib.Core.Path.{_≡_, refl}
+use mathlib.Core.Bool.{true}
+use mathlib.Core.List.{List, [], _∷_}
+use lib.ListN.{length, replicate}
+use Rattle.theory.specs.Places.{laid}
+use Rattle.theory.specs.Runs.{run}
+use Rattle.identifiers.specs.Answer.{done}
+use Rattle.identifiers.specs.declared.types.InterruptState.the-variants.{ActivePending}
+use Rattle.interrupt.specs.Life.{fresh, deliverableIn, enabledTo, pendingTo, activeTo, stateTo, triggerTo, routeTo, priorityTo, completed}
+use Rattle.operation.specs.declared.operation.Operation.the-variants.{SetEnabled, SetPending, SetState}
+use Rattle.registers.specs.declared.register.AccessWidth.the-variants.{Qword}
+use Rattle.registers.specs.Registers.{decode}
+use Rattle.distributor.specs.declared.distributor.DistributorState.{DistributorState}
+use Rattle.distributor.specs.Calls.{Call, write, claimSoftware, operate, reply, step}
+use Rattle.examples.specs.Board.{K}
+use Rattle.examples.specs.OrderExamples.{writes}
+
+-- 33 is owned, enabled, pending and active
+abbrev Ready : DistributorState
+Ready = run step (operate (SetEnabled true) 33 ∷ operate (SetState ActivePending) 33 ∷ []) K
+
+-- what a write lists of the 40 places that were lent
+abbrev lists : Call → List ℕ → Type 0
+lists c l = reply c Ready ≡ record { answer = done (length l ∷ []); list = laid l (replicate 40 0) }
+
+pub record Listings : Type 0 where
+  pub enable : lists (writes 0x104 2) (33 ∷ []) × lists (writes 0x184 2) []
+  pub pend : lists (writes 0x204 2) (33 ∷ []) × lists (writes 0x284 2) []
+  pub activate : lists (writes 0x304 2) [] × lists (writes 0x384 2) (33 ∷ [])
+  pub others : lists (writes 0x84 2) [] × lists (writes 0x420 0) [] × lists (writes 0xc08 0) []
+  pub route : lists (write 0x6108 Qword 1 (replicate 40 0)) (33 ∷ [])
+  -- two in one write, the lowest first; 34 is ready too, and not the guest's
+  pub order : reply (writes 0x104 6) (run step (operate (SetEnabled true) 34 ∷ operate (SetPending true) 34 ∷ claimSoftware 34 ∷ []) Ready) ≡ record { answer = done (2 ∷ []); list = 33 ∷ 34 ∷ replicate 38 0 }
+
+pub listings : Listings
+unfolding reply step decode fresh deliverableIn enabledTo pendingTo activeTo stateTo triggerTo routeTo priorityTo completed
+listings =
+    record {
+      enable = (refl, refl);
+      pend = (refl, refl);
+      activate = (refl, refl);
+      others = (refl, refl, refl);
+      route = refl;
+      order = refl;
+    }
