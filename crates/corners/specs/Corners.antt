@@ -1,18 +1,17 @@
--- More examples beside the board's twelve: widths and offsets, the table's end in both modes, and the corners of claims.
+-- More examples beside the board's twelve: widths and offsets, and the table's end in both modes.
 use Prim.Native.Nat.{_+_, _^_}
 use mathlib.Core.Path.{_≡_, refl}
 use mathlib.Core.Bool.{true}
 use mathlib.Core.List.{List, [], _∷_}
 use Rattle.theory.specs.Runs.{run}
 use Rattle.identifiers.specs.Answer.{Answer, done, refused}
-use Rattle.identifiers.specs.Affinity.{affinity}
-use Rattle.interrupt.specs.Life.{fresh, routeIn, maskIn, deliverableIn, enabledTo, triggerTo, routeTo, unrouted, priorityTo, maskTo}
+use Rattle.interrupt.specs.Life.{fresh, deliverableIn, enabledTo, triggerTo, routeTo, priorityTo}
 use Rattle.identifiers.specs.declared.types.TriggerMode.the-variants.{Edge}
-use Rattle.operation.specs.declared.operation.Operation.the-variants.{SetEnabled, SetTrigger, SetCpuTargetMask}
+use Rattle.operation.specs.declared.operation.Operation.the-variants.{SetEnabled, SetTrigger}
 use Rattle.distributor.specs.declared.distributor.DistributorState.{DistributorState}
 use Rattle.registers.specs.declared.register.AccessWidth.the-variants.{Byte, Dword}
 use Rattle.registers.specs.Registers.{decode}
-use Rattle.distributor.specs.Calls.{Call, read, claimSoftware, claimPhysical, release, operate, ask, route, trigger, enabled, cpuTargetMask, reply, step, created}
+use Rattle.distributor.specs.Calls.{Call, read, operate, reply, step, created}
 use Rattle.examples.specs.Board.{K, Full}
 use Rattle.examples.specs.OrderExamples.{writes}
 
@@ -49,15 +48,6 @@ pub record TableEnd : Type 0 where
   pub excess-configuration : (told (writes 0xc10 0xffffffff) Guest ≡ done (0 ∷ [])) × (then (writes 0xc10 0xffffffff ∷ []) (read 0xc10 Dword) Guest ≡ done (0xaaaa ∷ []))
   pub excess-priority : (step (writes 0x448 0x11223344) Guest ≡ Guest) × (told (read 0x448 Dword) Guest ≡ done (0 ∷ []))
 
--- claims, target masks and releases
-pub record Claims : Type 0 where
-  -- a claim works in either mode, and once
-  pub once : (told (claimSoftware 34) Guest ≡ done []) × (then (claimSoftware 34 ∷ []) (claimSoftware 34) Guest ≡ refused 2 []) × (told (claimSoftware 65) K ≡ refused 2 []) × (told (claimSoftware 72) K ≡ refused 1 (72 ∷ []))
-  -- a physical claim drops the target mask, and an unset one reads 1; a mask on a fixed route succeeds and changes nothing
-  pub masks : (then (operate (SetCpuTargetMask 3) 34 ∷ []) (ask cpuTargetMask 34) K ≡ done (3 ∷ [])) × (then (operate (SetCpuTargetMask 3) 34 ∷ claimPhysical 34 (affinity 0 0 0 2) ∷ []) (ask cpuTargetMask 34) K ≡ done (1 ∷ [])) × (told (operate (SetCpuTargetMask 3) 65) K ≡ done []) × (step (operate (SetCpuTargetMask 3) 65) K ≡ K)
-  -- release succeeds on an unclaimed SPI; on a claimed one it clears the route, sets level and keeps enabled
-  pub releases : (told (release 34) K ≡ done []) × (step (release 34) K ≡ K) × (then (release 65 ∷ []) (ask route 65) K ≡ done []) × (then (operate (SetTrigger Edge) 64 ∷ operate (SetEnabled true) 64 ∷ release 64 ∷ []) (ask trigger 64) K ≡ done (0 ∷ [])) × (then (operate (SetTrigger Edge) 64 ∷ operate (SetEnabled true) 64 ∷ release 64 ∷ []) (ask enabled 64) K ≡ done (1 ∷ []))
-
 pub accesses : Accesses
 unfolding reply step decode fresh deliverableIn enabledTo triggerTo routeTo
 accesses =
@@ -77,13 +67,4 @@ table-end =
       excess-flags = (refl, refl);
       excess-configuration = (refl, refl);
       excess-priority = (refl, refl);
-    }
-
-pub claims : Claims
-unfolding reply step fresh routeIn maskIn enabledTo triggerTo routeTo unrouted maskTo
-claims =
-    record {
-      once = (refl, refl, refl, refl);
-      masks = (refl, refl, refl, refl);
-      releases = (refl, refl, refl, refl, refl);
     }

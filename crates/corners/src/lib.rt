@@ -1,1 +1,1 @@
-// More examples that are computed from the definitions: widths, the table's end, claims. There is no code here.
+// More examples that are computed from the definitions: widths, offsets and the table's end. There is no code here.

@@ -1,0 +1,42 @@
+-- The corners of claims, target masks and releases, as examples.
+use mathlib.Core.Path.{_≡_, refl}
+use mathlib.Core.Bool.{true}
+use mathlib.Core.List.{List, [], _∷_}
+use Rattle.theory.specs.Runs.{run}
+use Rattle.identifiers.specs.Answer.{Answer, done, refused}
+use Rattle.identifiers.specs.Affinity.{affinity}
+use Rattle.interrupt.specs.Life.{fresh, routeIn, maskIn, enabledTo, triggerTo, routeTo, unrouted, maskTo}
+use Rattle.identifiers.specs.declared.types.TriggerMode.the-variants.{Edge}
+use Rattle.operation.specs.declared.operation.Operation.the-variants.{SetEnabled, SetTrigger, SetCpuTargetMask}
+use Rattle.distributor.specs.declared.distributor.DistributorState.{DistributorState}
+use Rattle.distributor.specs.Calls.{Call, claimSoftware, claimPhysical, release, operate, ask, route, trigger, enabled, cpuTargetMask, reply, step, created}
+use Rattle.examples.specs.Board.{K, Full}
+
+-- 40 SPIs, all guest-owned
+abbrev Guest : DistributorState
+Guest = created (Full .config) 40
+
+abbrev told : Call → DistributorState → Answer
+told c d = reply c d .answer
+
+-- what a call is told after the calls
+abbrev then : List Call → Call → DistributorState → Answer
+then calls c d = told c (run step calls d)
+
+-- claims, target masks and releases
+pub record Claims : Type 0 where
+  -- a claim works in either mode, and once
+  pub once : (told (claimSoftware 34) Guest ≡ done []) × (then (claimSoftware 34 ∷ []) (claimSoftware 34) Guest ≡ refused 2 []) × (told (claimSoftware 65) K ≡ refused 2 []) × (told (claimSoftware 72) K ≡ refused 1 (72 ∷ []))
+  -- a physical claim drops the target mask, and an unset one reads 1; a mask on a fixed route succeeds and changes nothing
+  pub masks : (then (operate (SetCpuTargetMask 3) 34 ∷ []) (ask cpuTargetMask 34) K ≡ done (3 ∷ [])) × (then (operate (SetCpuTargetMask 3) 34 ∷ claimPhysical 34 (affinity 0 0 0 2) ∷ []) (ask cpuTargetMask 34) K ≡ done (1 ∷ [])) × (told (operate (SetCpuTargetMask 3) 65) K ≡ done []) × (step (operate (SetCpuTargetMask 3) 65) K ≡ K)
+  -- release succeeds on an unclaimed SPI; on a claimed one it clears the route, sets level and keeps enabled
+  pub releases : (told (release 34) K ≡ done []) × (step (release 34) K ≡ K) × (then (release 65 ∷ []) (ask route 65) K ≡ done []) × (then (operate (SetTrigger Edge) 64 ∷ operate (SetEnabled true) 64 ∷ release 64 ∷ []) (ask trigger 64) K ≡ done (0 ∷ [])) × (then (operate (SetTrigger Edge) 64 ∷ operate (SetEnabled true) 64 ∷ release 64 ∷ []) (ask enabled 64) K ≡ done (1 ∷ []))
+
+pub claims : Claims
+unfolding reply step fresh routeIn maskIn enabledTo triggerTo routeTo unrouted maskTo
+claims =
+    record {
+      once = (refl, refl, refl, refl);
+      masks = (refl, refl, refl, refl);
+      releases = (refl, refl, refl, refl, refl);
+    }
