@@ -1,4 +1,4 @@
--- The corners of claims, target masks and releases, as examples.
+-- The corners of target masks and of releases, as examples.
 use mathlib.Core.Path.{_≡_, refl}
 use mathlib.Core.Bool.{true}
 use mathlib.Core.List.{List, [], _∷_}
@@ -23,20 +23,19 @@ told c d = reply c d .answer
 abbrev then : List Call → Call → DistributorState → Answer
 then calls c d = told c (run step calls d)
 
--- claims, target masks and releases
-pub record Claims : Type 0 where
-  -- a claim works in either mode, and once
-  pub once : (told (claimSoftware 34) Guest ≡ done []) × (then (claimSoftware 34 ∷ []) (claimSoftware 34) Guest ≡ refused 2 []) × (told (claimSoftware 65) K ≡ refused 2 []) × (told (claimSoftware 72) K ≡ refused 1 (72 ∷ []))
+-- target masks and releases
+pub record Masks : Type 0 where
   -- a physical claim drops the target mask, and an unset one reads 1; a mask on a fixed route succeeds and changes nothing
   pub masks : (then (operate (SetCpuTargetMask 3) 34 ∷ []) (ask cpuTargetMask 34) K ≡ done (3 ∷ [])) × (then (operate (SetCpuTargetMask 3) 34 ∷ claimPhysical 34 (affinity 0 0 0 2) ∷ []) (ask cpuTargetMask 34) K ≡ done (1 ∷ [])) × (told (operate (SetCpuTargetMask 3) 65) K ≡ done []) × (step (operate (SetCpuTargetMask 3) 65) K ≡ K)
+
+pub record Releases : Type 0 where
   -- release succeeds on an unclaimed SPI; on a claimed one it clears the route, sets level and keeps enabled
   pub releases : (told (release 34) K ≡ done []) × (step (release 34) K ≡ K) × (then (release 65 ∷ []) (ask route 65) K ≡ done []) × (then (operate (SetTrigger Edge) 64 ∷ operate (SetEnabled true) 64 ∷ release 64 ∷ []) (ask trigger 64) K ≡ done (0 ∷ [])) × (then (operate (SetTrigger Edge) 64 ∷ operate (SetEnabled true) 64 ∷ release 64 ∷ []) (ask enabled 64) K ≡ done (1 ∷ []))
 
-pub claims : Claims
-unfolding reply step fresh routeIn maskIn enabledTo triggerTo routeTo unrouted maskTo
-claims =
-    record {
-      once = (refl, refl, refl, refl);
-      masks = (refl, refl, refl, refl);
-      releases = (refl, refl, refl, refl, refl);
-    }
+pub claim-masks : Masks
+unfolding reply step fresh maskIn routeTo maskTo
+claim-masks = record { masks = (refl, refl, refl, refl) }
+
+pub claims : Releases
+unfolding reply step fresh routeIn enabledTo triggerTo routeTo unrouted
+claims = record { releases = (refl, refl, refl, refl, refl) }

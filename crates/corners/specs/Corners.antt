@@ -1,4 +1,4 @@
--- More examples beside the board's twelve: widths and offsets, and the table's end in both modes.
+-- More examples beside the board's twelve: widths and offsets, the table's end in both modes, and that a claim is had once.
 use Prim.Native.Nat.{_+_, _^_}
 use mathlib.Core.Path.{_≡_, refl}
 use mathlib.Core.Bool.{true}
@@ -11,7 +11,7 @@ use Rattle.operation.specs.declared.operation.Operation.the-variants.{SetEnable
 use Rattle.distributor.specs.declared.distributor.DistributorState.{DistributorState}
 use Rattle.registers.specs.declared.register.AccessWidth.the-variants.{Byte, Dword}
 use Rattle.registers.specs.Registers.{decode}
-use Rattle.distributor.specs.Calls.{Call, read, operate, reply, step, created}
+use Rattle.distributor.specs.Calls.{Call, read, claimSoftware, operate, reply, step, created}
 use Rattle.examples.specs.Board.{K, Full}
 use Rattle.examples.specs.OrderExamples.{writes}
 
@@ -48,6 +48,10 @@ pub record TableEnd : Type 0 where
   pub excess-configuration : (told (writes 0xc10 0xffffffff) Guest ≡ done (0 ∷ [])) × (then (writes 0xc10 0xffffffff ∷ []) (read 0xc10 Dword) Guest ≡ done (0xaaaa ∷ []))
   pub excess-priority : (step (writes 0x448 0x11223344) Guest ≡ Guest) × (told (read 0x448 Dword) Guest ≡ done (0 ∷ []))
 
+pub record Once : Type 0 where
+  -- a claim works in either mode, and once
+  pub once : (told (claimSoftware 34) Guest ≡ done []) × (then (claimSoftware 34 ∷ []) (claimSoftware 34) Guest ≡ refused 2 []) × (told (claimSoftware 65) K ≡ refused 2 []) × (told (claimSoftware 72) K ≡ refused 1 (72 ∷ []))
+
 pub accesses : Accesses
 unfolding reply step decode fresh deliverableIn enabledTo triggerTo routeTo
 accesses =
@@ -68,3 +72,7 @@ table-end =
       excess-configuration = (refl, refl);
       excess-priority = (refl, refl);
     }
+
+pub claimed-once : Once
+unfolding reply step fresh routeTo
+claimed-once = record { once = (refl, refl, refl, refl) }
