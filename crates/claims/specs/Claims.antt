@@ -1,29 +1,15 @@
 -- The corners of target masks and of releases, as examples.
 use mathlib.Core.Path.{_≡_, refl}
 use mathlib.Core.Bool.{true}
-use mathlib.Core.List.{List, [], _∷_}
-use Rattle.theory.specs.Runs.{run}
-use Rattle.identifiers.specs.Answer.{Answer, done, refused}
+use mathlib.Core.List.{[], _∷_}
+use Rattle.identifiers.specs.Answer.{done}
 use Rattle.identifiers.specs.Affinity.{affinity}
 use Rattle.interrupt.specs.Life.{fresh, routeIn, maskIn, enabledTo, triggerTo, routeTo, unrouted, maskTo}
 use Rattle.identifiers.specs.declared.types.TriggerMode.the-variants.{Edge}
 use Rattle.operation.specs.declared.operation.Operation.the-variants.{SetEnabled, SetTrigger, SetCpuTargetMask}
-use Rattle.distributor.specs.declared.distributor.DistributorState.{DistributorState}
-use Rattle.distributor.specs.Calls.{Call, claimSoftware, claimPhysical, release, operate, ask, route, trigger, enabled, cpuTargetMask, reply, step, created}
-use Rattle.examples.specs.Board.{K, Full}
+use Rattle.distributor.specs.Calls.{claimPhysical, release, operate, ask, route, trigger, enabled, cpuTargetMask, reply, step}
+use Rattle.examples.specs.Board.{K, told, then}
 
--- 40 SPIs, all guest-owned
-abbrev Guest : DistributorState
-Guest = created (Full .config) 40
-
-abbrev told : Call → DistributorState → Answer
-told c d = reply c d .answer
-
--- what a call is told after the calls
-abbrev then : List Call → Call → DistributorState → Answer
-then calls c d = told c (run step calls d)
-
--- target masks and releases
 pub record Masks : Type 0 where
   -- a physical claim drops the target mask, and an unset one reads 1; a mask on a fixed route succeeds and changes nothing
   pub masks : (then (operate (SetCpuTargetMask 3) 34 ∷ []) (ask cpuTargetMask 34) K ≡ done (3 ∷ [])) × (then (operate (SetCpuTargetMask 3) 34 ∷ claimPhysical 34 (affinity 0 0 0 2) ∷ []) (ask cpuTargetMask 34) K ≡ done (1 ∷ [])) × (told (operate (SetCpuTargetMask 3) 65) K ≡ done []) × (step (operate (SetCpuTargetMask 3) 65) K ≡ K)

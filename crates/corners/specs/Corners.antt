@@ -2,29 +2,22 @@
 use Prim.Native.Nat.{_+_, _^_}
 use mathlib.Core.Path.{_≡_, refl}
 use mathlib.Core.Bool.{true}
-use mathlib.Core.List.{List, [], _∷_}
+use mathlib.Core.List.{[], _∷_}
 use Rattle.theory.specs.Runs.{run}
-use Rattle.identifiers.specs.Answer.{Answer, done, refused}
+use Rattle.identifiers.specs.Answer.{done, refused}
 use Rattle.interrupt.specs.Life.{fresh, deliverableIn, enabledTo, triggerTo, routeTo, priorityTo}
 use Rattle.identifiers.specs.declared.types.TriggerMode.the-variants.{Edge}
 use Rattle.operation.specs.declared.operation.Operation.the-variants.{SetEnabled, SetTrigger}
 use Rattle.distributor.specs.declared.distributor.DistributorState.{DistributorState}
 use Rattle.registers.specs.declared.register.AccessWidth.the-variants.{Byte, Dword}
 use Rattle.registers.specs.Registers.{decode}
-use Rattle.distributor.specs.Calls.{Call, read, claimSoftware, operate, reply, step, created}
-use Rattle.examples.specs.Board.{K, Full}
+use Rattle.distributor.specs.Calls.{read, claimSoftware, operate, reply, step, created}
+use Rattle.examples.specs.Board.{K, Full, told, then}
 use Rattle.examples.specs.OrderExamples.{writes}
 
 -- 40 SPIs, all guest-owned
 abbrev Guest : DistributorState
 Guest = created (Full .config) 40
-
-abbrev told : Call → DistributorState → Answer
-told c d = reply c d .answer
-
--- what a call is told after the calls
-abbrev then : List Call → Call → DistributorState → Answer
-then calls c d = told c (run step calls d)
 
 -- widths, offsets and ownership
 pub record Accesses : Type 0 where

@@ -5,6 +5,7 @@ use mathlib.Core.Bool.{true, false}
 use mathlib.Core.List.{List, [], _∷_}
 use lib.ListN.{replicate}
 use lib.Count.{leadingZeros}
+use Rattle.theory.specs.Runs.{run}
 use Rattle.identifiers.specs.Answer.{Answer, done, refused}
 use Rattle.identifiers.specs.Affinity.{affinity}
 use Rattle.interrupt.specs.Life.{fresh, routeIn, deliverableIn, enabledTo, pendingTo, priorityTo, triggerTo, routeTo, unrouted, levelTo, raised, pulsed}
@@ -21,21 +22,20 @@ use Rattle.distributor.specs.Calls.{Call, create, read, write, claimSoftware, c
 abbrev plainConfig : GicV3SpiOwnership → ControllerConfig
 plainConfig o = record { «spi_ownership» = o; «distributor_size» = 0x10000; «exposes_guest_lpis» = false; its = false; «lpi_limit» = 0; «affinity_level_3» = false; «range_selector» = false }
 
--- calls, one after another
-abbrev afterAll : List Call → DistributorState → DistributorState
-afterAll [] d = d
-afterAll (c ∷ cs) d = afterAll cs (step c d)
-
 -- K: 40 SPIs, explicit claims; 33 and 64 claimed by software, 65 physically with affinity 0.0.0.1
 abbrev pub K : DistributorState
-K = afterAll (claimSoftware 33 ∷ claimSoftware 64 ∷ claimPhysical 65 (affinity 0 0 0 1) ∷ []) (created (plainConfig Explicit) 40)
+K = run step (claimSoftware 33 ∷ claimSoftware 64 ∷ claimPhysical 65 (affinity 0 0 0 1) ∷ []) (created (plainConfig Explicit) 40)
 
 -- a lent list with just enough places for K, and for 988 SPIs
 abbrev lent : ℕ → List ℕ
 lent n = replicate n 0xa5a5
 
-abbrev told : Call → DistributorState → Answer
+abbrev pub told : Call → DistributorState → Answer
 told c d = reply c d .answer
+
+-- what a call is told after the calls
+abbrev pub then : List Call → Call → DistributorState → Answer
+then calls c d = told c (run step calls d)
 
 -- refused, or done, with what the list holds then
 abbrev gives : Answer → List ℕ → Reply
@@ -66,14 +66,14 @@ pub record Board : Type 0 where
   pub case4 : told (read (2 ^ 64 - 4) Dword) K ≡ refused 3 []
   pub case5 : reads 0x4 K ≡ done (0x780002 ∷ [])
   -- the list is as it was lent, and the state is K's with 64 and 65 enabled
-  pub case6 : (reply (writes 0x108 0x1ff) K ≡ gives (refused 1 (72 ∷ [])) (lent 40)) × (step (writes 0x108 0x1ff) K ≡ afterAll (operate (SetEnabled true) 64 ∷ operate (SetEnabled true) 65 ∷ []) K)
+  pub case6 : (reply (writes 0x108 0x1ff) K ≡ gives (refused 1 (72 ∷ [])) (lent 40)) × (step (writes 0x108 0x1ff) K ≡ run step (operate (SetEnabled true) 64 ∷ operate (SetEnabled true) 65 ∷ []) K)
   -- the whole state is K's
   pub case7 : (reply (writes 0x17c 0xf0000000) K ≡ gives (done (0 ∷ [])) (lent 40)) × (step (writes 0x17c 0xf0000000) K ≡ K)
   pub case8 : told (read 0x6108 Qword) (step (routes 0x6108 0x180020304) K) ≡ done (0x100020304 ∷ [])
   pub case9 : told (read 0x6208 Qword) (step (routes 0x6208 2) K) ≡ done (1 ∷ [])
-  pub case10 : told (ask pending 33) (afterAll (operate (SetLevel true) 33 ∷ writes 0x284 2 ∷ []) K) ≡ done (0 ∷ [])
+  pub case10 : told (ask pending 33) (run step (operate (SetLevel true) 33 ∷ writes 0x284 2 ∷ []) K) ≡ done (0 ∷ [])
   -- one candidate, in the first place; the other 39 are as they were lent
-  pub case11 : reply (writes 0x0 2) (afterAll (operate (SetEnabled true) 33 ∷ operate Pulse 33 ∷ release 33 ∷ []) K) ≡ gives (done (1 ∷ [])) (33 ∷ lent 39)
+  pub case11 : reply (writes 0x0 2) (run step (operate (SetEnabled true) 33 ∷ operate Pulse 33 ∷ release 33 ∷ []) K) ≡ gives (done (1 ∷ [])) (33 ∷ lent 39)
   pub case12 : told (read 0x7f8 Qword) (step sets Full) ≡ done (0x44332211 ∷ [])
 
 pub board : Board
