@@ -23,15 +23,15 @@ fn main() {
     println!("cargo:rerun-if-env-changed=RATTLE_LIB");
     if env::var_os("CARGO_FEATURE_RATTLE").is_some() {
         let Some(folder) = env::var_os("RATTLE_LIB").map(PathBuf::from) else {
-            eprintln!("oracle: RATTLE_LIB is to name the folder of libbatch.a");
+            eprintln!("oracle: RATTLE_LIB is to name the folder of libharness_batch.a");
             process::exit(2);
         };
         println!(
             "cargo:rerun-if-changed={}",
-            folder.join("libbatch.a").display()
+            folder.join("libharness_batch.a").display()
         );
         println!("cargo:rustc-link-search=native={}", folder.display());
-        println!("cargo:rustc-link-lib=static=batch");
+        println!("cargo:rustc-link-lib=static=harness_batch");
     }
 
     let mut text = String::new();

@@ -1,4 +1,4 @@
-//! The Rattle Distributor as a machine, over the static library `batch`.
+//! The Rattle Distributor as a machine, over the static library `harness_batch`.
 //!
 //! The library runs a whole sequence in one call and hands back all that is seen
 //! of it; no state is kept between two calls. So the machine is told which calls

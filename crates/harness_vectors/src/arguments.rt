@@ -1,0 +1,90 @@
+// What the arguments of a call may be (docs/ORACLE.md, "The calls").
+use harness_calls::call;
+use harness_calls::call::Call;
+use harness_calls::call::Family;
+
+const ANY: u64 = 0xffff_ffff_ffff_ffff;
+
+const WORD: u64 = 0xffff_ffff;
+
+// The most places that a write is lent: 8 more than a table can have.
+pub const PLACES: usize = 996;
+
+// Whether there is such a call, and each argument is one that it can have. `made` says whether there is a Distributor, which
+// only the identifiers and a creation do without.
+pub fn proper(call: Call, made: bool) -> bool {
+    let op = call.op;
+    let alone = op <= 0x10;
+    (made | alone)
+        & known(op)
+        & (call.a <= largest_a(op))
+        & (call.b <= largest_b(op))
+        & (call.c <= largest_c(op))
+        & (call.d <= largest_d(op))
+        & ((op != 0x11) & (op != 0x12) | is_width(call.b))
+}
+
+fn known(op: u64) -> bool {
+    match call::family_of(op) {
+        Family::Unknown => false,
+        _ => true,
+    }
+}
+
+fn is_width(bytes: u64) -> bool {
+    (bytes == 1) | (bytes == 2) | (bytes == 4) | (bytes == 8)
+}
+
+fn largest_a(op: u64) -> u64 {
+    match op {
+        // A byte.
+        0x01 | 0x02 => 0xff,
+        // An affinity or an offset.
+        0x06 | 0x07 | 0x11 | 0x12 => ANY,
+        // None.
+        0x13 => 0,
+        // A bit.
+        0x14 => 1,
+        // A number, N or an SPI.
+        _ => WORD,
+    }
+}
+
+fn largest_b(op: u64) -> u64 {
+    match op {
+        // A bit or a trigger.
+        0x08 | 0x22 | 0x24 | 0x26 | 0x2f | 0x33 | 0x37 => 1,
+        // A state.
+        0x28 | 0x2c => 3,
+        // A width.
+        0x11 | 0x12 => 8,
+        // Settings.
+        0x10 => 0x1f,
+        // A mask or a priority.
+        0x18 | 0x31 => 0xff,
+        // An affinity.
+        0x16 | 0x35 => ANY,
+        // None.
+        _ => 0,
+    }
+}
+
+fn largest_c(op: u64) -> u64 {
+    match op {
+        // A frame size, or a value.
+        0x10 | 0x12 => ANY,
+        // None.
+        _ => 0,
+    }
+}
+
+fn largest_d(op: u64) -> u64 {
+    match op {
+        // The LPI limit.
+        0x10 => WORD,
+        // Places.
+        0x12 => PLACES as u64,
+        // None.
+        _ => 0,
+    }
+}
