@@ -7,69 +7,46 @@ use native.Mathlib.Numerals.{add-one}
 use lib.Pow.{pow-pos, pow-mono}
 use native.Mathlib.Omega.{arith}
 use Rattle.bank.specs.declared.bank.Bank.{Bank}
-use Rattle.bank.specs.declared.bank.Bank.the-variants.{Igroupr, Isenabler, Icenabler, Ispendr, Icpendr, Isactiver, Icactiver, Ipriorityr, Icfgr, Irouter}
+use Rattle.bank.specs.declared.bank.Field.{Field}
+use Rattle.bank.specs.declared.bank.Field.the-variants.{Group, Priority, Configuration}
+use Rattle.bank.specs.declared.bank.Bank.the-variants.{Set, Clear, Replace}
 use Rattle.bank.specs.Banks.{bitsOf, field}
 
+-- what holds of a bank with 1, 2, 8 or 64 bits for each INTID holds of every bank
+pub each : (P : ℕ → Type 0) → P 1 → P 2 → P 8 → P 64 → (b : Bank) → P (bitsOf b)
+each P one two eight all (Set f) = one
+each P one two eight all (Clear f) = one
+each P one two eight all (Replace Group) = one
+each P one two eight all (Replace Priority) = eight
+each P one two eight all (Replace Configuration) = two
+each P one two eight all (Replace Field.Route) = all
+
 pub bits-range : (b : Bank) → (1 ≤ bitsOf b) × (bitsOf b ≤ 64)
-bits-range Igroupr = omega arith
-bits-range Isenabler = omega arith
-bits-range Icenabler = omega arith
-bits-range Ispendr = omega arith
-bits-range Icpendr = omega arith
-bits-range Isactiver = omega arith
-bits-range Icactiver = omega arith
-bits-range Ipriorityr = omega arith
-bits-range Icfgr = omega arith
-bits-range Irouter = omega arith
+bits-range b = each (λ k. (1 ≤ k) × (k ≤ 64)) (omega arith) (omega arith) (omega arith) (omega arith) b
 
 -- the base is what it stands for, or the bank has 64 bits
-abbrev Small : Bank → Type 0
-Small b = (2 ^ bitsOf b % 2 ^ 64 ≡ 2 ^ bitsOf b) × ((2 ^ 64 - 1) / 2 ^ bitsOf b + 1 ≡ 2 ^ (64 - bitsOf b))
+abbrev Small : ℕ → Type 0
+Small k = (2 ^ k % 2 ^ 64 ≡ 2 ^ k) × ((2 ^ 64 - 1) / 2 ^ k + 1 ≡ 2 ^ (64 - k))
 
-sized : (b : Bank) → Small b ⊎ (bitsOf b ≡ 64)
-sized Igroupr = inl (refl, refl)
-sized Isenabler = inl (refl, refl)
-sized Icenabler = inl (refl, refl)
-sized Ispendr = inl (refl, refl)
-sized Icpendr = inl (refl, refl)
-sized Isactiver = inl (refl, refl)
-sized Icactiver = inl (refl, refl)
-sized Ipriorityr = inl (refl, refl)
-sized Icfgr = inl (refl, refl)
-sized Irouter = inr refl
+sized : (b : Bank) → Small (bitsOf b) ⊎ (bitsOf b ≡ 64)
+sized b = each (λ k. Small k ⊎ (k ≡ 64)) (inl (refl, refl)) (inl (refl, refl)) (inl (refl, refl)) (inr refl) b
 
 base-is : (b : Bank) → (2 ^ bitsOf b % 2 ^ 64 ≡ 2 ^ bitsOf b) ⊎ (2 ^ bitsOf b ≡ 2 ^ 64)
 base-is b = ⊎-elim (λ p. inl (p .0)) (λ p. inr (rw p)) (sized b)
 
 -- a field below others, in 64 bits
-pub joined-fits : (b : Bank) (a f : ℕ) → a % 2 ^ (64 - bitsOf b) * 2 ^ bitsOf b + f % 2 ^ bitsOf b < 2 ^ 64
-joined-fits Igroupr a f = omega arith
-joined-fits Isenabler a f = omega arith
-joined-fits Icenabler a f = omega arith
-joined-fits Ispendr a f = omega arith
-joined-fits Icpendr a f = omega arith
-joined-fits Isactiver a f = omega arith
-joined-fits Icactiver a f = omega arith
-joined-fits Ipriorityr a f = omega arith
-joined-fits Icfgr a f = omega arith
-joined-fits Irouter a f = omega arith
+pub below-fits : (b : Bank) (a f : ℕ) → a % 2 ^ (64 - bitsOf b) * 2 ^ bitsOf b + f % 2 ^ bitsOf b < 2 ^ 64
+below-fits b a f = each (λ k. a % 2 ^ (64 - k) * 2 ^ k + f % 2 ^ k < 2 ^ 64) (omega arith) (omega arith) (omega arith) (omega arith) b
 
-pub joined-same : (b : Bank) (a f : ℕ) → a * 2 ^ bitsOf b + f < 2 ^ 64 → f < 2 ^ bitsOf b
+pub below-same : (b : Bank) (a f : ℕ) → a * 2 ^ bitsOf b + f < 2 ^ 64 → f < 2 ^ bitsOf b
     → a % 2 ^ (64 - bitsOf b) * 2 ^ bitsOf b + f % 2 ^ bitsOf b ≡ a * 2 ^ bitsOf b + f
-joined-same Igroupr a f h k = omega arith
-joined-same Isenabler a f h k = omega arith
-joined-same Icenabler a f h k = omega arith
-joined-same Ispendr a f h k = omega arith
-joined-same Icpendr a f h k = omega arith
-joined-same Isactiver a f h k = omega arith
-joined-same Icactiver a f h k = omega arith
-joined-same Ipriorityr a f h k = omega arith
-joined-same Icfgr a f h k = omega arith
-joined-same Irouter a f h k = omega arith
+below-same b a f =
+    each (λ k. a * 2 ^ k + f < 2 ^ 64 → f < 2 ^ k → a % 2 ^ (64 - k) * 2 ^ k + f % 2 ^ k ≡ a * 2 ^ k + f)
+    (λ h k. omega arith) (λ h k. omega arith) (λ h k. omega arith) (λ h k. omega arith) b
 
 module _ (b : Bank) {x : ℕ} (e : x ≡ 2 ^ bitsOf b % 2 ^ 64) where
-  pub none-lowest : (v : ℕ) → v < 2 ^ 64 → x ≡ 0 → v ≡ v % 2 ^ bitsOf b
-  none-lowest v h z =
+  pub none-low : (v : ℕ) → v < 2 ^ 64 → x ≡ 0 → v ≡ v % 2 ^ bitsOf b
+  none-low v h z =
       ⊎-elim (λ p. absurd (omega (arith, pow-pos (bitsOf b)))) (λ p. rw p (omega arith)) (base-is b)
 
   pub none-above : (v : ℕ) → v < 2 ^ 64 → x ≡ 0 → 0 ≡ v / 2 ^ bitsOf b
@@ -80,8 +57,8 @@ module _ (b : Bank) {x : ℕ} (e : x ≡ 2 ^ bitsOf b % 2 ^ 64) where
   base-real z = ⊎-elim (λ p. e ∙ p) (λ p. absurd (z (e ∙ (rw p)))) (base-is b)
 
   -- a field that takes all 64 bits leaves none for those above it
-  pub none-joined : (a f : ℕ) → f < 2 ^ 64 → x ≡ 0 → f ≡ a % 2 ^ (64 - bitsOf b) * 2 ^ bitsOf b + f % 2 ^ bitsOf b
-  none-joined a f h z =
+  pub none-below : (a f : ℕ) → f < 2 ^ 64 → x ≡ 0 → f ≡ a % 2 ^ (64 - bitsOf b) * 2 ^ bitsOf b + f % 2 ^ bitsOf b
+  none-below a f h z =
       ⊎-elim (λ p. let q = p .0 in absurd (omega (arith, pow-pos (bitsOf b)))) (λ p. rw p (omega arith)) (sized b)
 
   room-real : (x ≡ 0 → ⊥) → (2 ^ 64 - 1) / x + 1 ≡ 2 ^ (64 - bitsOf b)
@@ -90,8 +67,8 @@ module _ (b : Bank) {x : ℕ} (e : x ≡ 2 ^ bitsOf b % 2 ^ 64) where
   pub room-fits : (x ≡ 0 → ⊥) → (2 ^ 64 - 1) / x + 1 < 2 ^ 64
   room-fits z = let h : 2 ^ (64 - bitsOf b) ≤ 2 ^ 63 = pow-mono {i = 64 - bitsOf b} {j = 63} (omega (arith, bits-range b)) in omega (arith, room-real z)
 
-  pub joined-real : (x ≡ 0 → ⊥) → (a f : ℕ) → a % ((2 ^ 64 - 1) / x + 1) * x + f % x ≡ a % 2 ^ (64 - bitsOf b) * 2 ^ bitsOf b + f % 2 ^ bitsOf b
-  joined-real z a f = rw (room-real z, base-real z)
+  pub below-real : (x ≡ 0 → ⊥) → (a f : ℕ) → a % ((2 ^ 64 - 1) / x + 1) * x + f % x ≡ a % 2 ^ (64 - bitsOf b) * 2 ^ bitsOf b + f % 2 ^ bitsOf b
+  below-real z a f = rw (room-real z, base-real z)
 
 -- the value is used up field by field
 pub used : (b : ℕ) (value v j : ℕ) → v ≡ value / b ^ j → v / b ≡ value / b ^ (j + 1)

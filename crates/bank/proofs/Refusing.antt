@@ -8,11 +8,14 @@ use native.Mathlib.Omega.{arith}
 use borrow.Author.Tests.{ltb-true}
 use lib.Dec.{leb}
 use Rattle.theory.specs.Bools.{both}
-use Rattle.theory.specs.Places.{passing}
-use Rattle.theory.specs.PlaceLaws.{passing-more, passing-split, passing-same, passing-never}
-use Rattle.bank.specs.declared.bank.Bank.the-variants.{Igroupr, Isenabler, Icenabler, Ispendr, Icpendr, Isactiver, Icactiver, Ipriorityr, Icfgr, Irouter}
+use Rattle.theory.specs.Lists.{passing}
+use Rattle.theory.specs.ListLaws.{passing-more, passing-split, passing-same, passing-never}
+use Rattle.bank.specs.declared.bank.Field.{Field}
+use Rattle.bank.specs.declared.bank.Field.the-variants.{Group, Priority, Configuration}
+use Rattle.bank.specs.declared.bank.Bank.the-variants.{Set, Clear, Replace}
 use Rattle.bank.specs.declared.bank.Bank.{Bank}
-use Rattle.bank.specs.Banks.{bitsOf, beyondTable, readRefuses, writeRefuses, field, refusedOver, lowest}
+use Rattle.place.specs.Table.{beyondTable}
+use Rattle.bank.specs.Banks.{bitsOf, readRefuses, writeRefuses, field, refusedOver, firstOf}
 use Rattle.bank.proofs.Digits.{field-at}
 
 pub refuses : (b : Bank) (value lo j v f n : ℕ) (e x y : Bool)
@@ -30,28 +33,24 @@ module _ (t : ℕ → Bool) (lo j : ℕ) (none : passing t lo j ≡ []) where
   pub none-more : t (lo + j) ≡ false → passing t lo (j + 1) ≡ []
   none-more e = rw (add-one j) (passing-more t lo j ∙ (rw (none, e)))
 
-  pub first-found : (m : ℕ) → j < m → t (lo + j) ≡ true → lowest (passing t lo m) ≡ (lo + j) ∷ []
+  pub first-found : (m : ℕ) → j < m → t (lo + j) ≡ true → firstOf (passing t lo m) ≡ (lo + j) ∷ []
   first-found m h e =
       let z : m ≡ j + suc (m - suc j) = omega arith in
       let p : passing t lo m ≡ (lo + j) ∷ passing t (suc (lo + j)) (m - suc j) = ap (passing t lo) z ∙ passing-split t lo j (suc (m - suc j)) ∙ (rw (none, e)) in
-      ap lowest p
+      ap firstOf p
 
 -- a bank whose reads are refused beyond the table refuses every write there
 pub reads-as : (b : Bank) (e : Bool) (n lo m : ℕ) → readRefuses b ≡ true
-    → lowest (passing (refusedOver e n b 0 lo) lo m) ≡ lowest (passing (λ i. readRefuses b && beyondTable e n i) lo m)
-reads-as b e n lo m h = ap lowest (passing-same (refusedOver e n b 0 lo) (λ i. readRefuses b && beyondTable e n i) lo m (λ i. ap (λ (x : Bool). x && beyondTable e n i) (go b (field b 0 lo i) h ∙ sym h)))
+    → firstOf (passing (refusedOver e n b 0 lo) lo m) ≡ firstOf (passing (λ i. readRefuses b && beyondTable e n i) lo m)
+reads-as b e n lo m h = ap firstOf (passing-same (refusedOver e n b 0 lo) (λ i. readRefuses b && beyondTable e n i) lo m (λ i. ap (λ (x : Bool). x && beyondTable e n i) (go b (field b 0 lo i) h ∙ sym h)))
   where
     go : (b : Bank) (f : ℕ) → readRefuses b ≡ true → writeRefuses b f ≡ true
-    go Igroupr f q = cc
-    go Isenabler f q = cc
-    go Icenabler f q = cc
-    go Ispendr f q = cc
-    go Icpendr f q = cc
-    go Isactiver f q = cc
-    go Icactiver f q = cc
-    go Ipriorityr f q = refl
-    go Icfgr f q = refl
-    go Irouter f q = cc
+    go (Set x) f q = cc
+    go (Clear x) f q = cc
+    go (Replace Group) f q = cc
+    go (Replace Priority) f q = refl
+    go (Replace Configuration) f q = refl
+    go (Replace Field.Route) f q = cc
 
-pub reads-free : (b : Bank) (e : Bool) (n lo m : ℕ) → readRefuses b ≡ false → [] ≡ lowest (passing (λ i. readRefuses b && beyondTable e n i) lo m)
-reads-free b e n lo m h = sym (ap lowest (passing-never (λ i. readRefuses b && beyondTable e n i) lo m (λ i. rw h)))
+pub reads-free : (b : Bank) (e : Bool) (n lo m : ℕ) → readRefuses b ≡ false → [] ≡ firstOf (passing (λ i. readRefuses b && beyondTable e n i) lo m)
+reads-free b e n lo m h = sym (ap firstOf (passing-never (λ i. readRefuses b && beyondTable e n i) lo m (λ i. rw h)))

@@ -1,11 +1,16 @@
--- The banks of registers, row by row. A bank is what it shows of a record, which written fields act, whether a write lists
--- candidates, and what is refused beyond the table.
-use Prim.Native.Nat.{ℕ, zero, suc, _+_, _-_, _*_, _/_, _%_, _^_}
+-- The banks of registers. A bank is what it shows of a record, which written fields act, whether a write lists candidates, and what
+-- is refused beyond the table. Arm pairs them: two banks show one flag, and a write to the one sets it, to the other clears it.
+--
+--     ISENABLER  Set Enabled     ICENABLER  Clear Enabled     IGROUPR     Replace Group
+--     ISPENDR    Set Pending     ICPENDR    Clear Pending     IPRIORITYR  Replace Priority
+--     ISACTIVER  Set Active      ICACTIVER  Clear Active      ICFGR       Replace Configuration
+--                                                             IROUTER     Replace Route
+use Prim.Native.Nat.{ℕ, zero, suc, _-_, _*_, _+_, _/_, _%_, _^_}
 use mathlib.Core.Bool.{Bool, true, false, not, _&&_, cond}
 use mathlib.Core.List.{List, [], _∷_}
 use mir.Val.{boolByte}
 use lib.Dec.{leb, eqb}
-use Rattle.identifiers.specs.Answer.{within}
+use Rattle.place.specs.Table.{beyondTable}
 use Rattle.identifiers.specs.Affinity.{mpidrOf}
 use Rattle.interrupt.specs.Life.{routeIn}
 use Rattle.identifiers.specs.declared.types.TriggerMode.{TriggerMode}
@@ -13,33 +18,39 @@ use Rattle.interrupt.specs.declared.interrupt.InterruptRecord.{InterruptRecord}
 use Rattle.interrupt.specs.declared.interrupt.Route.{Route}
 use Rattle.bank.specs.declared.bank.Beyond.{Beyond}
 use Rattle.bank.specs.declared.bank.Beyond.the-variants.{Nothing, At}
+use Rattle.bank.specs.declared.bank.Flag.{Flag}
+use Rattle.bank.specs.declared.bank.Flag.the-variants.{Enabled, Pending, Active}
+use Rattle.bank.specs.declared.bank.Field.{Field}
+use Rattle.bank.specs.declared.bank.Field.the-variants.{Group, Priority, Configuration}
+use Rattle.bank.specs.declared.bank.FieldRule.{FieldRule}
 use Rattle.bank.specs.declared.bank.Bank.{Bank}
-use Rattle.bank.specs.declared.bank.Bank.the-variants.{Igroupr, Isenabler, Icenabler, Ispendr, Icpendr, Isactiver, Icactiver, Ipriorityr, Icfgr, Irouter}
+use Rattle.bank.specs.declared.bank.Bank.the-variants.{Set, Clear, Replace}
 
--- the bits that a bank has for each INTID
-abbrev pub bitsOf : Bank → ℕ
-bitsOf Igroupr = 1
-bitsOf Isenabler = 1
-bitsOf Icenabler = 1
-bitsOf Ispendr = 1
-bitsOf Icpendr = 1
-bitsOf Isactiver = 1
-bitsOf Icactiver = 1
-bitsOf Ipriorityr = 8
-bitsOf Icfgr = 2
-bitsOf Irouter = 64
+-- ---- a row for each field and each flag
 
--- ---- the table
+abbrev pub rule : ℕ → Bool → Bool → Bool → Bool → FieldRule
+rule k w l r i = record { bits = k; «takes_writes» = w; lists = l; «refuses_reads» = r; «ignores_beyond» = i }
 
--- a table of n records has INTIDs 32 to 31 + n
-abbrev pub inTable : ℕ → ℕ → Bool
-inTable n i = within 32 (32 + n) i
+-- the bits for each INTID; whether writes are taken; whether they list; and, beyond the table, by the base's rule, whether reads are
+-- refused and writes ignored. IGROUPR ignores writes, by the base's rule
+abbrev pub ruleOf : Field → FieldRule
+ruleOf Group = rule 1 false false false false
+ruleOf Priority = rule 8 true false true false
+ruleOf Configuration = rule 2 true false true false
+ruleOf Field.Route = rule 64 true true false true
 
--- an SPI that could be and is not there. With explicit claims the guest is refused over it, by the base's rule
-abbrev pub beyondTable : Bool → ℕ → ℕ → Bool
-beyondTable explicit n i = explicit && within (32 + n) 1020 i
+-- whether setting a flag lists, and whether clearing it does. An SPI that is no longer active may be delivered again
+abbrev pub setLists : Flag → Bool
+setLists Enabled = true
+setLists Pending = true
+setLists Active = false
 
--- ---- the banks, row by row
+abbrev pub clearLists : Flag → Bool
+clearLists Enabled = false
+clearLists Pending = false
+clearLists Active = true
+
+-- ---- what an owned SPI shows
 
 abbrev pub bit : Bool → ℕ
 bit b = boolByte b
@@ -48,83 +59,64 @@ abbrev pub routed : Route → ℕ
 routed (Route.To a) = mpidrOf a
 routed Route.Unset = 0
 
--- ICFGR: 2 for edge, 0 for level
+-- ICFGR: 2 for edge, 0 for level; of a written field the upper bit of the two says edge
 abbrev pub edgeField : TriggerMode → ℕ
 edgeField TriggerMode.Edge = 2
 edgeField TriggerMode.Level = 0
 
--- what an owned SPI shows. IGROUPR shows that it is owned; the two enable banks show one bit, and so the pending and the active banks
-abbrev pub shown : Bank → InterruptRecord → ℕ
-shown Igroupr r = 1
-shown Isenabler r = bit (r .enabled)
-shown Icenabler r = bit (r .enabled)
-shown Ispendr r = bit (r .pending)
-shown Icpendr r = bit (r .pending)
-shown Isactiver r = bit (r .active)
-shown Icactiver r = bit (r .active)
-shown Ipriorityr r = r .priority .0
-shown Icfgr r = edgeField (r .trigger)
-shown Irouter r = routed (routeIn r)
-
--- whether a written field acts: of a flag bank a 1 does, of the others every field; IGROUPR ignores writes
-abbrev pub acts : Bank → ℕ → Bool
-acts Igroupr f = false
-acts Isenabler f = eqb f 1
-acts Icenabler f = eqb f 1
-acts Ispendr f = eqb f 1
-acts Icpendr f = eqb f 1
-acts Isactiver f = eqb f 1
-acts Icactiver f = eqb f 1
-acts Ipriorityr f = true
-acts Icfgr f = true
-acts Irouter f = true
-
--- ICFGR: the upper bit of the two says edge
 abbrev pub triggerIn : ℕ → TriggerMode
-triggerIn f = cond (leb 2 f) TriggerMode.Edge TriggerMode.Level
+triggerIn v = cond (leb 2 v) TriggerMode.Edge TriggerMode.Level
+
+abbrev pub flagIn : Flag → InterruptRecord → Bool
+flagIn Enabled r = r .enabled
+flagIn Pending r = r .pending
+flagIn Active r = r .active
+
+-- IGROUPR shows that the SPI is owned, by the base's rule
+abbrev pub fieldIn : Field → InterruptRecord → ℕ
+fieldIn Group r = 1
+fieldIn Priority r = r .priority .0
+fieldIn Configuration r = edgeField (r .trigger)
+fieldIn Field.Route r = routed (routeIn r)
+
+-- ---- the banks
+
+abbrev pub bitsOf : Bank → ℕ
+bitsOf (Set f) = 1
+bitsOf (Clear f) = 1
+bitsOf (Replace x) = ruleOf x .bits
+
+abbrev pub shown : Bank → InterruptRecord → ℕ
+shown (Set f) r = bit (flagIn f r)
+shown (Clear f) r = bit (flagIn f r)
+shown (Replace x) r = fieldIn x r
+
+-- which written fields act: of a flag a 1, of the others every one
+abbrev pub acts : Bank → ℕ → Bool
+acts (Set f) v = eqb v 1
+acts (Clear f) v = eqb v 1
+acts (Replace x) v = ruleOf x .«takes_writes»
 
 -- whether a write lists the SPIs that it touched and that are deliverable then
 abbrev pub lists : Bank → Bool
-lists Igroupr = false
-lists Isenabler = true
-lists Icenabler = false
-lists Ispendr = true
-lists Icpendr = false
-lists Isactiver = false
-lists Icactiver = true
-lists Ipriorityr = false
-lists Icfgr = false
-lists Irouter = true
+lists (Set f) = setLists f
+lists (Clear f) = clearLists f
+lists (Replace x) = ruleOf x .lists
 
--- whether a read is refused beyond the table: a flag or a route there shows 0
+-- whether a read is refused beyond the table: a flag there shows 0
 abbrev pub readRefuses : Bank → Bool
-readRefuses Igroupr = false
-readRefuses Isenabler = false
-readRefuses Icenabler = false
-readRefuses Ispendr = false
-readRefuses Icpendr = false
-readRefuses Isactiver = false
-readRefuses Icactiver = false
-readRefuses Ipriorityr = true
-readRefuses Icfgr = true
-readRefuses Irouter = false
+readRefuses (Set f) = false
+readRefuses (Clear f) = false
+readRefuses (Replace x) = ruleOf x .«refuses_reads»
 
--- IROUTER ignores what it has no SPI for
+-- and whether a written field is: one that acts, unless the bank ignores what it has no SPI for
 abbrev pub ignoresBeyond : Bank → Bool
-ignoresBeyond Igroupr = false
-ignoresBeyond Isenabler = false
-ignoresBeyond Icenabler = false
-ignoresBeyond Ispendr = false
-ignoresBeyond Icpendr = false
-ignoresBeyond Isactiver = false
-ignoresBeyond Icactiver = false
-ignoresBeyond Ipriorityr = false
-ignoresBeyond Icfgr = false
-ignoresBeyond Irouter = true
+ignoresBeyond (Set f) = false
+ignoresBeyond (Clear f) = false
+ignoresBeyond (Replace x) = ruleOf x .«ignores_beyond»
 
--- whether a written field is refused beyond the table: one that acts
 abbrev pub writeRefuses : Bank → ℕ → Bool
-writeRefuses b f = not (ignoresBeyond b) && acts b f
+writeRefuses b v = not (ignoresBeyond b) && acts b v
 
 -- ---- fields: those of the INTIDs from lo on, the lowest INTID in the lowest bits
 
@@ -141,11 +133,16 @@ abbrev pub packed : Bank → (ℕ → ℕ) → ℕ → ℕ → ℕ
 packed b t lo zero = 0
 packed b t lo (suc m) = packed b t (suc lo) m * 2 ^ bitsOf b + t lo
 
--- the first of a list
-abbrev pub lowest : List ℕ → List ℕ
-lowest [] = []
-lowest (i ∷ is) = i ∷ []
+-- the first of a list, if it has one
+abbrev pub firstOf : List ℕ → List ℕ
+firstOf [] = []
+firstOf (i ∷ is) = i ∷ []
 
 abbrev pub toldBeyond : Beyond → List ℕ
 toldBeyond Nothing = []
 toldBeyond (At i) = i ∷ []
+
+-- whether a write lists candidates: not where it is refused
+abbrev pub listsUnless : Beyond → Bool
+listsUnless Nothing = true
+listsUnless (At i) = false

@@ -2,18 +2,20 @@
 use Prim.Native.Nat.{ℕ, zero, suc, _+_, _-_, _*_, _^_, _≤_, _<_}
 use mathlib.Core.Path.{_≡_}
 use mathlib.Core.Bool.{Bool, true, false, cond}
-use mir.Val.{boolByte}
 use native.Mathlib.Nat.{mul-le-mul-right, mul-suc, suc-mul, mul-zero, pow-zero, pow-suc}
 use native.Mathlib.Omega.{arith}
 use lib.Pow.{pow-add}
+use Rattle.theory.specs.Bools.{bit-fits}
 use Rattle.identifiers.specs.AffinityLaws.{Bytes}
 use Rattle.identifiers.specs.declared.types.TriggerMode.{TriggerMode}
 use Rattle.interrupt.specs.Life.{routeIn}
 use Rattle.interrupt.specs.declared.interrupt.InterruptRecord.{InterruptRecord}
 use Rattle.interrupt.specs.declared.interrupt.Route.{Route}
 use Rattle.bank.specs.declared.bank.Bank.{Bank}
-use Rattle.bank.specs.declared.bank.Bank.the-variants.{Igroupr, Isenabler, Icenabler, Ispendr, Icpendr, Isactiver, Icactiver, Ipriorityr, Icfgr, Irouter}
-use Rattle.bank.specs.Banks.{bitsOf, routed, edgeField, shown, packed}
+use Rattle.bank.specs.declared.bank.Field.{Field}
+use Rattle.bank.specs.declared.bank.Field.the-variants.{Group, Priority, Configuration}
+use Rattle.bank.specs.declared.bank.Bank.the-variants.{Set, Clear, Replace}
+use Rattle.bank.specs.Banks.{bitsOf, routed, flagIn, edgeField, shown, packed}
 
 pub pow-pow : (a m : ℕ) → (2 ^ a) ^ m ≡ 2 ^ (a * m)
 pow-pow a zero = rw (mul-zero a, pow-zero (2 ^ a))
@@ -27,15 +29,11 @@ packed-fits b t h lo zero = rw (pow-zero (2 ^ bitsOf b)) (omega arith)
 packed-fits b t h lo (suc m) =
     rw (pow-suc (2 ^ bitsOf b) m) (digit-fits (packed b t (suc lo) m) ((2 ^ bitsOf b) ^ m) (t lo) (2 ^ bitsOf b) (packed-fits b t h (suc lo) m) (h lo))
 
-pub bit-fits : (b : Bool) → boolByte b < 2
-bit-fits true = omega arith
-bit-fits false = omega arith
-
 pub edge-fits : (t : TriggerMode) → edgeField t < 4
 edge-fits TriggerMode.Edge = omega arith
 edge-fits TriggerMode.Level = omega arith
 
-route-fits : (r : InterruptRecord) → Bytes (r .route) → shown Irouter r < 2 ^ 64
+route-fits : (r : InterruptRecord) → Bytes (r .route) → shown (Replace Field.Route) r < 2 ^ 64
 unfolding routeIn
 route-fits r h = go (r .routed)
   where
@@ -44,13 +42,9 @@ route-fits r h = go (r .routed)
     go false = omega arith
 
 pub shown-fits : (b : Bank) (r : InterruptRecord) → r .priority .0 < 256 → Bytes (r .route) → shown b r < 2 ^ bitsOf b
-shown-fits Igroupr r p h = omega arith
-shown-fits Isenabler r p h = bit-fits (r .enabled)
-shown-fits Icenabler r p h = bit-fits (r .enabled)
-shown-fits Ispendr r p h = bit-fits (r .pending)
-shown-fits Icpendr r p h = bit-fits (r .pending)
-shown-fits Isactiver r p h = bit-fits (r .active)
-shown-fits Icactiver r p h = bit-fits (r .active)
-shown-fits Ipriorityr r p h = p
-shown-fits Icfgr r p h = edge-fits (r .trigger)
-shown-fits Irouter r p h = route-fits r h
+shown-fits (Set f) r p h = bit-fits (flagIn f r)
+shown-fits (Clear f) r p h = bit-fits (flagIn f r)
+shown-fits (Replace Group) r p h = omega arith
+shown-fits (Replace Priority) r p h = p
+shown-fits (Replace Configuration) r p h = edge-fits (r .trigger)
+shown-fits (Replace Field.Route) r p h = route-fits r h

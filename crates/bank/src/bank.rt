@@ -1,26 +1,50 @@
-// The banks: what each shows of a record, which written fields act, whether a write lists, and what is refused beyond the table. No
-// table is in here.
+// The banks of registers: what each shows of a record, which written fields act, whether a write lists, and what is refused beyond
+// the table. No table is in here.
 use identifiers::types::TriggerMode;
 use interrupt::interrupt::InterruptRecord;
 use interrupt::interrupt::Route;
 ghost use mathlib.Core.Path.{_≡_};
-ghost use mathlib.Core.Bool.{not, _&&_};
+ghost use mathlib.Core.Bool.{_&&_};
 ghost use Prim.Native.Nat.{_+_, _-_, _*_, _/_, _%_, _^_, _<_};
-ghost use Rattle.theory.specs.Places.{passing};
-ghost use Rattle.bank.specs.Banks.{bitsOf, routed, shown, acts, triggerIn, edgeField, lists, readRefuses, ignoresBeyond, writeRefuses, beyondTable, refusedOver, toldBeyond, lowest};
+ghost use Rattle.theory.specs.Lists.{passing};
+ghost use Rattle.place.specs.Table.{beyondTable};
+ghost use Rattle.bank.specs.Banks.{rule, ruleOf, bitsOf, routed, flagIn, fieldIn, shown, acts, triggerIn, edgeField, setLists, clearLists, lists, readRefuses, ignoresBeyond, writeRefuses, refusedOver, toldBeyond, listsUnless, firstOf};
 
-// A bank holds a field of the same width for each INTID.
+// A flag of an interrupt. Two banks show it: a write to the one sets it, to the other clears it.
+pub enum Flag {
+    Enabled,
+    Pending,
+    Active,
+}
+
+// What a bank with one field for each INTID holds.
+pub enum Field {
+    Group,
+    Priority,
+    Configuration,
+    Route,
+}
+
+// What holds of a field, whoever's it is.
+pub struct FieldRule {
+    // The bits for each INTID.
+    bits: u64,
+    takes_writes: bool,
+    // A write lists the SPIs that it touched.
+    lists: bool,
+    // Beyond the table a read is refused, and a write ignored.
+    refuses_reads: bool,
+    ignores_beyond: bool,
+}
+
+// A bank holds a field of the same width for each INTID. Arm's names for them:
 pub enum Bank {
-    Igroupr,
-    Isenabler,
-    Icenabler,
-    Ispendr,
-    Icpendr,
-    Isactiver,
-    Icactiver,
-    Ipriorityr,
-    Icfgr,
-    Irouter,
+    // ISENABLER, ISPENDR, ISACTIVER: writing 1 sets the flag.
+    Set(Flag),
+    // ICENABLER, ICPENDR, ICACTIVER: writing 1 clears it.
+    Clear(Flag),
+    // IGROUPR, IPRIORITYR, ICFGR, IROUTER: a write replaces the field.
+    Replace(Field),
 }
 
 // The lowest INTID over which an access is refused, if there is one.
@@ -38,19 +62,30 @@ fn is_beyond(explicit: bool, n: u32, i: u64) -> bool
 
 // The lowest of the m INTIDs from lo on over which a write of the value is refused.
 pub fn first_beyond(explicit: bool, n: u32, bank: Bank, value: u64, lo: u32, m: u32) -> Beyond
-    ensures { λ r. ⌜ toldBeyond r ≡ lowest (passing (refusedOver explicit n bank value lo) lo m) ⌝ }
+    ensures { λ r. ⌜ toldBeyond r ≡ firstOf (passing (refusedOver explicit n bank value lo) lo m) ⌝ }
 {
     let mut v = value;
     let mut j: u32 = 0;
     while j < m {
         let i = lo as u64 + j as u64;
-        if bank.write_refuses(bank.lowest(v)) & is_beyond(explicit, n, i) {
+        if bank.write_refuses(bank.low_field(v)) & is_beyond(explicit, n, i) {
             return Beyond::At(i as u32);
         }
         v = bank.above(v);
         j += 1;
     }
     Beyond::Nothing
+}
+
+// The lowest of the m INTIDs from lo on over which a read is refused.
+pub fn read_beyond(explicit: bool, n: u32, bank: Bank, lo: u32, m: u32) -> Beyond
+    ensures { λ r. ⌜ toldBeyond r ≡ firstOf (passing (λ i. readRefuses bank && beyondTable explicit n i) lo m) ⌝ }
+{
+    if bank.read_refuses() {
+        first_beyond(explicit, n, bank, 0, lo, m)
+    } else {
+        Beyond::Nothing
+    }
 }
 
 fn route_value(route: Route) -> u64
@@ -82,21 +117,119 @@ fn edge_value(trigger: TriggerMode) -> u64
     }
 }
 
+impl Beyond {
+    // A write that is refused beyond the table lists no candidate.
+    pub fn lists(self) -> bool
+        ensures { λ r. ⌜ r ≡ listsUnless self ⌝ }
+    {
+        match self {
+            Beyond::Nothing => true,
+            Beyond::At(_) => false,
+        }
+    }
+}
+
+impl Flag {
+    fn of(self, interrupt: InterruptRecord) -> bool
+        ensures { λ r. ⌜ r ≡ flagIn self interrupt ⌝ }
+    {
+        match self {
+            Flag::Enabled => interrupt.enabled(),
+            Flag::Pending => interrupt.pending(),
+            Flag::Active => interrupt.active(),
+        }
+    }
+
+    // Whether setting it lists.
+    fn set_lists(self) -> bool
+        ensures { λ r. ⌜ r ≡ setLists self ⌝ }
+    {
+        match self {
+            Flag::Enabled => true,
+            Flag::Pending => true,
+            Flag::Active => false,
+        }
+    }
+
+    // Whether clearing it lists: an interrupt that is no longer active may be delivered again.
+    fn clear_lists(self) -> bool
+        ensures { λ r. ⌜ r ≡ clearLists self ⌝ }
+    {
+        match self {
+            Flag::Enabled => false,
+            Flag::Pending => false,
+            Flag::Active => true,
+        }
+    }
+}
+
+impl Field {
+    // One row for each field, as in specs/Banks.antt.
+    fn rule(self) -> FieldRule
+        ensures { λ r. ⌜ r ≡ ruleOf self ⌝ }
+    {
+        match self {
+            Field::Group => FieldRule::new(1, false, false, false, false),
+            Field::Priority => FieldRule::new(8, true, false, true, false),
+            Field::Configuration => FieldRule::new(2, true, false, true, false),
+            Field::Route => FieldRule::new(64, true, true, false, true),
+        }
+    }
+
+    // IGROUPR shows that the SPI is owned.
+    fn of(self, interrupt: InterruptRecord) -> u64
+        ensures { λ r. ⌜ (r ≡ fieldIn self interrupt) × (r < 2 ^ ruleOf self .bits) ⌝ }
+    {
+        match self {
+            Field::Group => 1,
+            Field::Priority => interrupt.priority().raw() as u64,
+            Field::Configuration => edge_value(interrupt.trigger()),
+            Field::Route => route_value(interrupt.route()),
+        }
+    }
+
+    // 2 to the bits, and 0 for 2^64.
+    fn base(self) -> u64
+        ensures { λ r. ⌜ r ≡ 2 ^ ruleOf self .bits % 2 ^ 64 ⌝ }
+    {
+        match self {
+            Field::Group => 2,
+            Field::Priority => 256,
+            Field::Configuration => 4,
+            Field::Route => 0,
+        }
+    }
+}
+
+impl FieldRule {
+    fn new(
+        bits: u64,
+        takes_writes: bool,
+        lists: bool,
+        refuses_reads: bool,
+        ignores_beyond: bool,
+    ) -> Self
+        ensures { λ r. ⌜ r ≡ rule bits «takes_writes» lists «refuses_reads» «ignores_beyond» ⌝ }
+    {
+        FieldRule {
+            bits: bits,
+            takes_writes: takes_writes,
+            lists: lists,
+            refuses_reads: refuses_reads,
+            ignores_beyond: ignores_beyond,
+        }
+    }
+}
+
 impl Bank {
+    // The bits that it has for each INTID.
     pub fn bits(self) -> u64
         ensures { λ r. ⌜ r ≡ bitsOf self ⌝ }
     {
         match self {
-            Bank::Igroupr => 1,
-            Bank::Isenabler => 1,
-            Bank::Icenabler => 1,
-            Bank::Ispendr => 1,
-            Bank::Icpendr => 1,
-            Bank::Isactiver => 1,
-            Bank::Icactiver => 1,
-            Bank::Ipriorityr => 8,
-            Bank::Icfgr => 2,
-            Bank::Irouter => 64,
+            Bank::Set(_) => 1,
+            Bank::Clear(_) => 1,
+            Bank::Replace(field) => field.rule().bits,
         }
     }
 
@@ -105,39 +238,75 @@ impl Bank {
         ensures { λ r. ⌜ (r ≡ shown self interrupt) × (r < 2 ^ bitsOf self) ⌝ }
     {
         match self {
-            Bank::Igroupr => 1,
-            Bank::Isenabler => interrupt.enabled() as u64,
-            Bank::Icenabler => interrupt.enabled() as u64,
-            Bank::Ispendr => interrupt.pending() as u64,
-            Bank::Icpendr => interrupt.pending() as u64,
-            Bank::Isactiver => interrupt.active() as u64,
-            Bank::Icactiver => interrupt.active() as u64,
-            Bank::Ipriorityr => interrupt.priority().raw() as u64,
-            Bank::Icfgr => edge_value(interrupt.trigger()),
-            Bank::Irouter => route_value(interrupt.route()),
+            Bank::Set(flag) => flag.of(interrupt) as u64,
+            Bank::Clear(flag) => flag.of(interrupt) as u64,
+            Bank::Replace(field) => field.of(interrupt),
         }
     }
 
-    // The base in which a bank's fields are digits: 2 to their bits, and 0 for 2^64.
+    // Whether a written field acts.
+    pub fn acts(self, field: u64) -> bool
+        ensures { λ r. ⌜ r ≡ acts self field ⌝ }
+    {
+        match self {
+            Bank::Set(_) => field == 1,
+            Bank::Clear(_) => field == 1,
+            Bank::Replace(kept) => kept.rule().takes_writes,
+        }
+    }
+
+    // Whether a write lists the SPIs that it touched.
+    pub fn lists(self) -> bool
+        ensures { λ r. ⌜ r ≡ lists self ⌝ }
+    {
+        match self {
+            Bank::Set(flag) => flag.set_lists(),
+            Bank::Clear(flag) => flag.clear_lists(),
+            Bank::Replace(field) => field.rule().lists,
+        }
+    }
+
+    // Whether a read is refused beyond the table.
+    fn read_refuses(self) -> bool
+        ensures { λ r. ⌜ r ≡ readRefuses self ⌝ }
+    {
+        match self {
+            Bank::Set(_) => false,
+            Bank::Clear(_) => false,
+            Bank::Replace(field) => field.rule().refuses_reads,
+        }
+    }
+
+    fn ignores_beyond(self) -> bool
+        ensures { λ r. ⌜ r ≡ ignoresBeyond self ⌝ }
+    {
+        match self {
+            Bank::Set(_) => false,
+            Bank::Clear(_) => false,
+            Bank::Replace(field) => field.rule().ignores_beyond,
+        }
+    }
+
+    // Whether a written field is refused beyond the table.
+    fn write_refuses(self, field: u64) -> bool
+        ensures { λ r. ⌜ r ≡ writeRefuses self field ⌝ }
+    {
+        !self.ignores_beyond() & self.acts(field)
+    }
+
+    // The base in which the fields are digits: 2 to their bits, and 0 for 2^64.
     fn base(self) -> u64
         ensures { λ r. ⌜ r ≡ 2 ^ bitsOf self % 2 ^ 64 ⌝ }
     {
         match self {
-            Bank::Igroupr => 2,
-            Bank::Isenabler => 2,
-            Bank::Icenabler => 2,
-            Bank::Ispendr => 2,
-            Bank::Icpendr => 2,
-            Bank::Isactiver => 2,
-            Bank::Icactiver => 2,
-            Bank::Ipriorityr => 256,
-            Bank::Icfgr => 4,
-            Bank::Irouter => 0,
+            Bank::Set(_) => 2,
+            Bank::Clear(_) => 2,
+            Bank::Replace(field) => field.base(),
         }
     }
 
     // The lowest field of a value.
-    pub fn lowest(self, value: u64) -> u64
+    pub fn low_field(self, value: u64) -> u64
         ensures { λ r. ⌜ r ≡ value % 2 ^ bitsOf self ⌝ }
     {
         let base = self.base();
@@ -152,8 +321,21 @@ impl Bank {
         if base == 0 { 0 } else { value / base }
     }
 
+    // The fields from the k-th on, counted from 0.
+    pub fn from_field(self, value: u64, k: u32) -> u64
+        ensures { λ r. ⌜ r ≡ value / (2 ^ bitsOf self) ^ k ⌝ }
+    {
+        let mut v = value;
+        let mut j: u32 = 0;
+        while j < k {
+            v = self.above(v);
+            j += 1;
+        }
+        v
+    }
+
     // A field put below others. What 64 bits have no room for is dropped.
-    pub fn joined(self, above: u64, field: u64) -> u64
+    pub fn put_below(self, above: u64, field: u64) -> u64
         ensures { λ r. ⌜ r ≡ above % 2 ^ (64 - bitsOf self) * 2 ^ bitsOf self + field % 2 ^ bitsOf self ⌝ }
     {
         let base = self.base();
@@ -162,94 +344,5 @@ impl Bank {
         } else {
             above % (u64::MAX / base + 1) * base + field % base
         }
-    }
-
-    // Whether a read is refused beyond the table.
-    pub fn read_refuses(self) -> bool
-        ensures { λ r. ⌜ r ≡ readRefuses self ⌝ }
-    {
-        match self {
-            Bank::Igroupr => false,
-            Bank::Isenabler => false,
-            Bank::Icenabler => false,
-            Bank::Ispendr => false,
-            Bank::Icpendr => false,
-            Bank::Isactiver => false,
-            Bank::Icactiver => false,
-            Bank::Ipriorityr => true,
-            Bank::Icfgr => true,
-            Bank::Irouter => false,
-        }
-    }
-
-    fn ignores_beyond(self) -> bool
-        ensures { λ r. ⌜ r ≡ ignoresBeyond self ⌝ }
-    {
-        match self {
-            Bank::Igroupr => false,
-            Bank::Isenabler => false,
-            Bank::Icenabler => false,
-            Bank::Ispendr => false,
-            Bank::Icpendr => false,
-            Bank::Isactiver => false,
-            Bank::Icactiver => false,
-            Bank::Ipriorityr => false,
-            Bank::Icfgr => false,
-            Bank::Irouter => true,
-        }
-    }
-
-    // Whether a written field is refused beyond the table.
-    pub fn write_refuses(self, field: u64) -> bool
-        ensures { λ r. ⌜ r ≡ writeRefuses self field ⌝ }
-    {
-        !self.ignores_beyond() & self.acts(field)
-    }
-
-    // Whether a written field acts.
-    pub fn acts(self, field: u64) -> bool
-        ensures { λ r. ⌜ r ≡ acts self field ⌝ }
-    {
-        match self {
-            Bank::Igroupr => false,
-            Bank::Isenabler => field == 1,
-            Bank::Icenabler => field == 1,
-            Bank::Ispendr => field == 1,
-            Bank::Icpendr => field == 1,
-            Bank::Isactiver => field == 1,
-            Bank::Icactiver => field == 1,
-            Bank::Ipriorityr => true,
-            Bank::Icfgr => true,
-            Bank::Irouter => true,
-        }
-    }
-
-    // Whether a write lists the SPIs that it touched.
-    pub fn lists(self) -> bool
-        ensures { λ r. ⌜ r ≡ lists self ⌝ }
-    {
-        match self {
-            Bank::Igroupr => false,
-            Bank::Isenabler => true,
-            Bank::Icenabler => false,
-            Bank::Ispendr => true,
-            Bank::Icpendr => false,
-            Bank::Isactiver => false,
-            Bank::Icactiver => true,
-            Bank::Ipriorityr => false,
-            Bank::Icfgr => false,
-            Bank::Irouter => true,
-        }
-    }
-}
-
-// The lowest of the m INTIDs from lo on over which a read is refused.
-pub fn read_beyond(explicit: bool, n: u32, bank: Bank, lo: u32, m: u32) -> Beyond
-    ensures { λ r. ⌜ toldBeyond r ≡ lowest (passing (λ i. readRefuses bank && beyondTable explicit n i) lo m) ⌝ }
-{
-    if bank.read_refuses() {
-        first_beyond(explicit, n, bank, 0, lo, m)
-    } else {
-        Beyond::Nothing
     }
 }

@@ -1,76 +1,87 @@
 -- From what a write did to its state and its reply.
-use Prim.Native.Nat.{ℕ, _≤_, _<_}
-use mathlib.Core.Path.{_≡_, refl, sym, ap, _∙_}
-use mathlib.Core.Bool.{Bool, true, false}
+use Prim.Native.Nat.{ℕ, _≤_}
+use mathlib.Core.Path.{_≡_, refl, sym, subst, ap, _∙_}
+use mathlib.Core.Bool.{Bool, true, false, _&&_, cond}
 use mathlib.Core.List.{List, [], _∷_}
-use borrow.Author.Tests.{lt-ltb, le-ltb}
+use native.Mathlib.Omega.{arith}
+use borrow.Author.Tests.{ltb-false}
 use lib.Dec.{ltb}
 use lib.ListN.{length}
-use Rattle.theory.specs.Places.{mapAt, laid, passing}
-use Rattle.theory.specs.PlaceLaws.{passing-never}
-use Rattle.theory.specs.MapLaws.{mapAt-still}
+use Rattle.theory.specs.Lists.{mapAt, laid, passing}
+use Rattle.theory.specs.ListLaws.{passing-never}
+use Rattle.theory.specs.MapAtLaws.{mapAt-still}
 use Rattle.identifiers.specs.Answer.{Answer, done, refused}
 use Rattle.identifiers.specs.declared.error.Refusal.{Refusal}
 use Rattle.identifiers.specs.declared.error.Refusal.the-variants.{ShortList}
-use Rattle.distributor.specs.declared.access.WriteAnswer.{WriteAnswer}
-use Rattle.distributor.specs.declared.access.Wrote.{Wrote}
-use Rattle.distributor.specs.declared.distributor.DistributorState.{DistributorState}
+use Rattle.bank.specs.declared.bank.Beyond.{Beyond}
+use Rattle.bank.specs.declared.bank.Beyond.the-variants.{Nothing, At}
+use Rattle.bank.specs.Banks.{firstOf, toldBeyond, listsUnless}
+use Rattle.registers.specs.declared.answer.WriteAnswer.{WriteAnswer}
 use Rattle.registers.specs.declared.register.AccessWidth.{AccessWidth}
 use Rattle.registers.specs.declared.register.Direction.the-variants.{Writing}
+use Rattle.registers.specs.declared.register.Register.{Register}
+use Rattle.registers.specs.Registers.{decode, writeAccess}
 use Rattle.registers.specs.declared.register.Access.{Access}
-use Rattle.registers.specs.declared.register.Access.the-variants.{Refused}
-use Rattle.registers.specs.Registers.{decode}
-use Rattle.distributor.specs.Calls.{Reply, unless, size, write, writeAccess, writeReply, listingUnless, reply, step}
-use Rattle.bank.specs.Banks.{lowest}
-use Rattle.distributor.specs.Loops.{withSlots}
-use Rattle.distributor.specs.Told.{toldWrite, writtenState, Writes}
+use Rattle.registers.specs.declared.register.Access.the-variants.{To, Refused}
+use Rattle.registers.specs.Answers.{toldWrite, unlessBeyond}
+use Rattle.model.specs.Calls.{Distributor, Reply, size, write, unless, listing, listingUnless, writeReply, reply, step}
+use Rattle.distributor.specs.declared.distributor.DistributorState.{DistributorState}
+use Rattle.distributor.specs.declared.access.Wrote.{Wrote}
+use Rattle.distributor.specs.Model.{modelOf}
+use Rattle.distributor.specs.Loops.{withSlots, Lists}
+use Rattle.distributor.specs.Writes.{afterWrite, Writes}
 
--- a map that leaves every slot alone leaves the state alone
-pub still : (d : DistributorState) → d ≡ withSlots d (mapAt (λ p s. s) (d .slots))
-still d = ap (withSlots d) (sym (mapAt-still (λ p s. s) (d .slots) (λ p s. refl)))
+-- a map that leaves every slot alone leaves the Distributor alone
+pub still : (d : DistributorState) → modelOf d ≡ modelOf (withSlots d (mapAt (λ p s. s) (d .slots)))
+still d = ap (λ (l : _). modelOf (withSlots d l)) (sym (mapAt-still (λ p s. s) (d .slots) (λ p s. refl)))
 
--- none is listed where the loop is told to list nothing
-pub untold : (t : ℕ → Bool) (lo m : ℕ) (old new : List ℕ) → new ≡ laid (passing (λ i. false) lo m) old → new ≡ old
-untold t lo m old new e = e ∙ ap (λ (l : List ℕ). laid l old) (passing-never (λ i. false) lo m (λ i. refl))
+-- an answer that waits on the lowest INTID beyond the table
+pub unless-beyond : (x : Beyond) (l : List ℕ) (a : Answer) → toldBeyond x ≡ firstOf l → unlessBeyond x a ≡ unless l a
+unless-beyond Nothing [] a e = refl
+unless-beyond Nothing (i ∷ is) a e = cc
+unless-beyond (At k) [] a e = cc
+unless-beyond (At k) (i ∷ is) a e = let z : k ≡ i = cc in rw z
 
-module _ (d : DistributorState) (l candidates list left : List ℕ) where
-  pub listing-hit : (i : ℕ) → i ∷ [] ≡ lowest l → left ≡ list → _≡_ {A = Reply} (record { answer = refused 1 (i ∷ []); list = left }) (listingUnless d l candidates list)
-  listing-hit i e f = go l e
-    where
-      go : (k : List ℕ) → i ∷ [] ≡ lowest k → _≡_ {A = Reply} (record { answer = refused 1 (i ∷ []); list = left }) (listingUnless d k candidates list)
-      go [] e = cc
-      go (x ∷ k) e = let z : i ≡ x = cc in rw (z, f)
+-- the same of a write and its list: where it is refused, the loop was told to list nothing
+listing-beyond : (x : Beyond) (l : List ℕ) (t : ℕ → Bool) (lo m : ℕ) (old new : List ℕ) (n : ℕ) (d : Distributor) → toldBeyond x ≡ firstOf l
+    → Lists (passing (λ i. listsUnless x && t i) lo m) old new n
+    → _≡_ {A = Reply} (record { answer = unlessBeyond x (done (n ∷ [])); list = new }) (listingUnless d l (passing t lo m) old)
+listing-beyond Nothing [] t lo m old new n d e h = rw (h .0, h .1)
+listing-beyond Nothing (i ∷ is) t lo m old new n d e h = cc
+listing-beyond (At k) [] t lo m old new n d e h = cc
+listing-beyond (At k) (i ∷ is) t lo m old new n d e h =
+    let z : k ≡ i = cc in
+    let none : passing (λ j. false) lo m ≡ [] = passing-never (λ j. false) lo m (λ j. refl) in
+    let same : new ≡ old = h .0 ∙ ap (λ (c : List ℕ). laid c old) none in
+    rw (z, same)
 
-  pub listing-miss : (n : ℕ) → [] ≡ lowest l → left ≡ laid candidates list → n ≡ length candidates
-      → _≡_ {A = Reply} (record { answer = done (n ∷ []); list = left }) (listingUnless d l candidates list)
-  listing-miss n e f g = go l e
-    where
-      go : (k : List ℕ) → [] ≡ lowest k → _≡_ {A = Reply} (record { answer = done (n ∷ []); list = left }) (listingUnless d k candidates list)
-      go [] e = rw (f, g)
-      go (x ∷ k) e = cc
+pub bank-told : (x : Beyond) (l : List ℕ) (t : ℕ → Bool) (lo m : ℕ) (old new : List ℕ) (n : ℕ) (d : Distributor) (a : Answer) (tells : Bool) → toldBeyond x ≡ firstOf l → tells ≡ listsUnless x
+    → Lists (passing (λ i. tells && t i) lo m) old new n → a ≡ unlessBeyond x (done (n ∷ []))
+    → _≡_ {A = Reply} (record { answer = a; list = new }) (listingUnless d l (passing t lo m) old)
+bank-told x l t lo m old new n d a tells e k h q =
+    let told : Lists (passing (λ i. listsUnless x && t i) lo m) old new n = subst (λ (y : Bool). Lists (passing (λ i. y && t i) lo m) old new n) k h in
+    ap (λ (r : Answer). record { answer = r; list = new }) q ∙ listing-beyond x l t lo m old new n d e told
 
 module _ (d : DistributorState) (v : ℕ) (list : List ℕ) (r : Wrote) where
+  -- a write that is ignored
+  pub ignored : (r .state ≡ d) × (r .answer ≡ WriteAnswer.Done 0)
+      → (modelOf (r .state) ≡ modelOf (withSlots d (mapAt (λ p s. s) (d .slots)))) × (record { answer = toldWrite (r .answer); list = list } ≡ listing (modelOf d) [] list)
+  ignored h = (ap modelOf (h .0) ∙ still d, ap (λ (a : WriteAnswer). record { answer = toldWrite a; list = list }) (h .1))
+
   -- a refused write changes nothing
   pub refused-writes : (f : Refusal) → (r .state ≡ d) × (r .answer ≡ WriteAnswer.Refused f) → Writes d (Refused f) v list r list
-  refused-writes f h = (h .0 ∙ still d, ap (λ (a : WriteAnswer). record { answer = toldWrite a; list = list }) (h .1))
+  refused-writes f h = (ap modelOf (h .0) ∙ still d, ap (λ (a : WriteAnswer). record { answer = toldWrite a; list = list }) (h .1))
+
+-- an access that is granted: the list is long enough, and the access is decoded to its register
+pub granted : (places n frame o : ℕ) (w : AccessWidth) (g : Register) → writeAccess places n frame o w ≡ To g → (n ≤ places) × (decode Writing frame o w ≡ To g)
+granted places n frame o w g h = go (ltb places n) refl h
+  where
+    go : (t : Bool) → ltb places n ≡ t → cond t (Refused ShortList) (decode Writing frame o w) ≡ To g → (n ≤ places) × (decode Writing frame o w ≡ To g)
+    go true e k = let z : _≡_ {A = ℕ} 0 1 = cc in absurd (omega arith)
+    go false e k = (ltb-false places n e, k)
 
 module _ (d : DistributorState) (o : ℕ) (w : AccessWidth) (v : ℕ) (list : List ℕ) where
-  pub access-short : length list < size d → writeAccess (d .config) (size d) o w list ≡ Refused ShortList
-  access-short h = let e : ltb (length list) (size d) ≡ true = lt-ltb _ _ h in rw e
-
-  pub access-long : size d ≤ length list → writeAccess (d .config) (size d) o w list ≡ decode Writing (d .config .«distributor_size») o w
-  access-long h = let e : ltb (length list) (size d) ≡ false = le-ltb _ _ h in rw e
-
-  pub written-so : (a : Access) (r : Wrote) (left : List ℕ) → writeAccess (d .config) (size d) o w list ≡ a → Writes d a v list r left
-      → (r .state ≡ step (write o w v list) d) × (_≡_ {A = Reply} (record { answer = toldWrite (r .answer); list = left }) (reply (write o w v list) d))
+  pub written-so : (a : Access) (r : Wrote) (left : List ℕ) → writeAccess (length list) (size (modelOf d)) (d .config .«distributor_size») o w ≡ a → Writes d a v list r left
+      → (modelOf (r .state) ≡ step (write o w v list) (modelOf d)) × (_≡_ {A = Reply} (record { answer = toldWrite (r .answer); list = left }) (reply (write o w v list) (modelOf d)))
   unfolding step reply
-  written-so a r left e h = (h .0 ∙ ap (λ (x : Access). writtenState d x v) (sym e), h .1 ∙ ap (λ (x : Access). writeReply d x v list) (sym e))
-
--- an answer that waits on the lowest INTID
-pub unless-hit : (l : List ℕ) (i : ℕ) (a : Answer) → i ∷ [] ≡ lowest l → refused 1 (i ∷ []) ≡ unless l a
-unless-hit [] i a e = cc
-unless-hit (x ∷ l) i a e = let z : i ≡ x = cc in rw z
-
-pub unless-miss : (l : List ℕ) (a : Answer) → [] ≡ lowest l → a ≡ unless l a
-unless-miss [] a e = refl
-unless-miss (x ∷ l) a e = cc
+  written-so a r left e h = (h .0 ∙ ap (λ (x : Access). afterWrite (modelOf d) x v) (sym e), h .1 ∙ ap (λ (x : Access). writeReply (modelOf d) x v list) (sym e))

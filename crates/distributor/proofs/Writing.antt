@@ -1,172 +1,166 @@
--- The loop that writes a bank's fields, from the lowest up: one field more, to the slots and to the list.
-use Prim.Native.Nat.{ℕ, _+_, _-_, _/_, _%_, _^_, _<_}
+-- The loop that writes a bank's fields, from the lowest INTID of the table up: one field more, to the slots and to the list.
+use Prim.Native.Nat.{ℕ, _+_, _-_, _/_, _%_, _^_, _≤_, _<_, min, max}
 use mathlib.Core.Path.{_≡_, refl, sym, ap, _∙_}
 use mathlib.Core.Logic.{_≢_, by-cases}
-use mathlib.Core.Bool.{Bool, true, false, not, _&&_, _||_, cond}
+use mathlib.Core.Bool.{Bool, true, false, _&&_, false≢true}
 use mathlib.Core.List.{List}
 use native.Mathlib.Omega.{arith}
-use native.Mathlib.Decide.{ℕ-discrete, decLe, decLt}
+use native.Mathlib.Decide.{decLe, decLt}
 use borrow.Author.Tests.{le-leb, lt-leb, lt-ltb, le-ltb}
 use lib.Dec.{leb, ltb}
 use lib.ListN.{getD, set}
-use lib.Seq.{set-getD}
-use Rattle.theory.specs.Places.{mapAt}
-use Rattle.theory.specs.MapLaws.{mapAt-edit, mapAt-same, getD-mapAt}
+use Rattle.theory.specs.Lists.{mapAt, passing}
+use Rattle.theory.specs.ListLaws.{passing-inside}
+use Rattle.theory.specs.MapAtLaws.{mapAt-edit, mapAt-same, mapAt-still, getD-mapAt}
 use Rattle.identifiers.specs.Answer.{within}
-use Rattle.interrupt.specs.Life.{deliverableIn}
-use Rattle.slot.specs.declared.slot.Slot.{Slot}
-use Rattle.registers.specs.declared.controller.ControllerConfig.{ControllerConfig}
+use Rattle.place.specs.Table.{inTable, tableSize}
+use Rattle.controller.specs.Ownership.{explicit}
 use Rattle.bank.specs.declared.bank.Bank.{Bank}
-use Rattle.bank.specs.Banks.{bitsOf, inTable, acts, lists, field}
-use Rattle.registers.specs.Ownership.{explicit}
-use Rattle.slot.specs.Slots.{owned, written, touches, turned, listed}
-use Rattle.slot.specs.BankRule.{slotOf, noSlot, reaches, bankSlot, candidate}
-use Rattle.distributor.specs.declared.distributor.DistributorState.{DistributorState}
-use Rattle.distributor.specs.Calls.{size}
-use Rattle.distributor.specs.Loops.{withSlots}
-use Rattle.bank.specs.BankLaws.{in-range}
+use Rattle.bank.specs.Banks.{bitsOf, field}
 use Rattle.bank.proofs.Digits.{field-at}
+use Rattle.slot.specs.declared.slot.Slot.{Slot}
+use Rattle.slot.specs.Slots.{fieldWritten, fieldListed}
+use Rattle.slot.specs.NoSlot.{noSlot}
+use Rattle.slot.specs.BankRule.{slotOf, covers, bankSlot, candidate}
+use Rattle.slot.specs.BankRuleLaws.{candidate-in}
+use Rattle.distributor.specs.declared.distributor.DistributorState.{DistributorState}
+use Rattle.distributor.specs.Loops.{withSlots}
 
--- the first j INTIDs from lo on
-within-next : (lo j i : ℕ) → i ≢ lo + j → within lo (lo + j) i ≡ within lo (lo + (j + 1)) i
-within-next lo j i h = by-cases (decLt i (lo + j))
-    (λ p. let x : ltb i (lo + j) ≡ true = lt-ltb _ _ p in let y : ltb i (lo + (j + 1)) ≡ true = lt-ltb i (lo + (j + 1)) (omega arith) in rw (x, y))
-    (λ p. let x : ltb i (lo + j) ≡ false = le-ltb i (lo + j) (omega arith) in let y : ltb i (lo + (j + 1)) ≡ false = le-ltb i (lo + (j + 1)) (omega arith) in rw (x, y))
+-- ---- which INTIDs an access covers
 
-within-last : (lo j k : ℕ) → j < k → within lo (lo + k) (lo + j) ≡ true
-within-last lo j k h =
-    let x : leb lo (lo + j) ≡ true = le-leb lo (lo + j) (omega arith) in
-    let y : ltb (lo + j) (lo + k) ≡ true = lt-ltb (lo + j) (lo + k) (omega arith) in
-    rw (x, y)
+covers-yes : (n lo m i : ℕ) → lo ≤ i → i < lo + m → 32 ≤ i → i < 32 + n → covers n lo m i ≡ true
+covers-yes n lo m i p q r s =
+    let a : leb lo i ≡ true = le-leb lo i p in
+    let b : ltb i (lo + m) ≡ true = lt-ltb i (lo + m) q in
+    let c : leb 32 i ≡ true = le-leb 32 i r in
+    let d : ltb i (32 + n) ≡ true = lt-ltb i (32 + n) s in
+    rw (a, b, c, d)
 
-within-none : (lo i : ℕ) → within lo (lo + 0) i ≡ false
-within-none lo i = by-cases (decLe lo i)
-    (λ p. let x : ltb i (lo + 0) ≡ false = le-ltb i (lo + 0) (omega arith) in let y : leb lo i ≡ true = le-leb lo i p in rw (x, y))
-    (λ p. let y : leb lo i ≡ false = lt-leb lo i (omega arith) in rw y)
+covers-past : (n lo m i : ℕ) → lo + m ≤ i → covers n lo m i ≡ false
+covers-past n lo m i p = let b : ltb i (lo + m) ≡ false = le-ltb i (lo + m) p in go (leb lo i) b
+  where
+    go : (x : Bool) → ltb i (lo + m) ≡ false → (x && ltb i (lo + m) && inTable n i) ≡ false
+    go true b = rw b
+    go false b = refl
 
-within-not : (lo j : ℕ) → within lo (lo + j) (lo + j) ≡ false
-within-not lo j =
-    let x : leb lo (lo + j) ≡ true = le-leb lo (lo + j) (omega arith) in
-    let y : ltb (lo + j) (lo + j) ≡ false = le-ltb (lo + j) (lo + j) (omega arith) in
-    rw (x, y)
+covers-before : (n lo m i : ℕ) → i < lo → covers n lo m i ≡ false
+covers-before n lo m i p = let a : leb lo i ≡ false = lt-leb lo i p in rw a
 
-module _ (c : ControllerConfig) (n : ℕ) (b : Bank) (value lo : ℕ) (l : List Slot) where
-  -- the slots once the first j INTIDs are written
+covers-out : (n lo m i : ℕ) → 32 + n ≤ i → covers n lo m i ≡ false
+covers-out n lo m i p = let b : ltb i (32 + n) ≡ false = le-ltb i (32 + n) p in go (within lo (lo + m) i) (leb 32 i) b
+  where
+    go : (x y : Bool) → ltb i (32 + n) ≡ false → (x && (y && ltb i (32 + n))) ≡ false
+    go true true b = rw b
+    go true false b = refl
+    go false y b = refl
+
+-- two accesses from lo on that agree on an INTID past 31
+covers-same : (n lo k m i : ℕ) → 32 ≤ i → (i < lo + k → lo ≤ i → i < 32 + n → i < lo + m) → (i < lo + m → lo ≤ i → i < 32 + n → i < lo + k) → covers n lo k i ≡ covers n lo m i
+covers-same n lo k m i h f g = by-cases (decLt i lo)
+    (λ p. covers-before n lo k i p ∙ sym (covers-before n lo m i p))
+    (λ p. by-cases (decLt i (32 + n))
+    (λ q. by-cases (decLt i (lo + k))
+    (λ r. covers-yes n lo k i (omega arith) r h q ∙ sym (covers-yes n lo m i (omega arith) (f r (omega arith) q) h q))
+    (λ r. by-cases (decLt i (lo + m))
+    (λ s. absurd (r (g s (omega arith) q)))
+    (λ s. covers-past n lo k i (omega arith) ∙ sym (covers-past n lo m i (omega arith)))))
+    (λ q. covers-out n lo k i (omega arith) ∙ sym (covers-out n lo m i (omega arith))))
+
+-- ---- the slots
+
+module _ (e : Bool) (n : ℕ) (b : Bank) (value lo : ℕ) (l : List Slot) where
+  -- once the INTIDs below i are written
   abbrev pub upTo : ℕ → ℕ → Slot → Slot
-  upTo j p s = bankSlot c n b value lo j (32 + p) s
+  upTo i p s = bankSlot e n b value lo (i - lo) (32 + p) s
 
   abbrev pub swept : ℕ → List Slot
-  swept j = mapAt (upTo j) l
+  swept i = mapAt (upTo i) l
 
   -- before the first turn nothing is written
-  pub none-yet : (p : ℕ) (s : Slot) → upTo 0 p s ≡ s
-  none-yet p s = let z = within-none lo (32 + p) in rw z
+  pub none-yet : swept (max lo 32) ≡ l
+  none-yet = mapAt-still (upTo (max lo 32)) l (λ p s. let z : covers n lo (max lo 32 - lo) (32 + p) ≡ false = go p in rw z)
+    where
+      go : (p : ℕ) → covers n lo (max lo 32 - lo) (32 + p) ≡ false
+      go p = by-cases (decLt (32 + p) lo) (λ q. covers-before n lo (max lo 32 - lo) (32 + p) q) (λ q. covers-past n lo (max lo 32 - lo) (32 + p) (omega arith))
 
-  -- the slot of the next INTID is as it was
-  untouched : (j p : ℕ) (s : Slot) → 32 + p ≡ lo + j → upTo j p s ≡ s
-  untouched j p s e = let z = within-not lo j in rw (e, z)
+  module _ (i p : ℕ) (low : max lo 32 ≤ i) (high : i < 32 + n) (at : p ≡ i - 32) where
+    -- the slot of the next INTID is as it was
+    untouched : (s : Slot) → upTo i p s ≡ s
+    untouched s = let z = covers-past n lo (i - lo) (32 + p) (omega arith) in rw z
 
-  -- another slot is as it was before the next INTID was written
-  other : (j p : ℕ) (s : Slot) → 32 + p ≢ lo + j → upTo j p s ≡ upTo (j + 1) p s
-  other j p s h = let z = within-next lo j (32 + p) h in rw z
+    -- another slot is as it was before the next INTID was written
+    other : (q : ℕ) (s : Slot) → q ≢ p → upTo i q s ≡ upTo (i + 1) q s
+    other q s h =
+        let z = covers-same n lo (i - lo) (i + 1 - lo) (32 + q) (omega arith) (λ x y w. omega arith) (λ x y w. by-cases (decLt (32 + q) (lo + (i - lo))) (λ r. r) (λ r. absurd (h (omega arith)))) in
+        rw z
 
-  -- the next INTID: inside the table a field may touch it
-  next : (j p f : ℕ) (s : Slot) → 32 + p ≡ lo + j → inTable n (lo + j) ≡ true → f ≡ field b value lo (lo + j)
-      → cond (acts b f && owned c s) (written b f s) s ≡ upTo (j + 1) p s
-  next j p f s e t q = let z = within-last lo j (j + 1) (omega arith) in rw (e, z, t, q)
+    next : (f : ℕ) (s : Slot) → f ≡ field b value lo i → fieldWritten e b f s ≡ upTo (i + 1) p s
+    next f s h =
+        let w : 32 + p ≡ i = omega arith in
+        let z = covers-yes n lo (i + 1 - lo) i (omega arith) (omega arith) (omega arith) high in
+        rw (w, z, h)
 
-  -- outside the table none does
-  beside : (j p : ℕ) (s : Slot) → inTable n (lo + j) ≡ false → upTo j p s ≡ upTo (j + 1) p s
-  beside j p s t = by-cases (ℕ-discrete (32 + p) (lo + j))
-      (λ e. untouched j p s e ∙ (let z = within-last lo j (j + 1) (omega arith) in rw (e, z, t)))
-      (λ h. other j p s h)
-
-  module _ (j p f : ℕ) (inside e touched : Bool) (new : Slot)
-      (hi : inside ≡ inTable n (lo + j)) (he : e ≡ explicit (c .«spi_ownership»)) (hp : p ≡ cond (inTable n (lo + j)) (lo + j - 32) 0)
-      (hf : f ≡ field b value lo (lo + j))
-      (ht : touched ≡ (inside && acts b f && (not e || getD (swept j) p noSlot .«explicitly_owned»)))
-      (hn : new ≡ cond touched (written b f (getD (swept j) p noSlot)) (getD (swept j) p noSlot)) where
-    pub swept-more : set (swept j) p new ≡ swept (j + 1)
-    swept-more = go (inTable n (lo + j)) refl
-      where
-        go : (t : Bool) → inTable n (lo + j) ≡ t → set (swept j) p new ≡ swept (j + 1)
-        go true t =
-            let low = in-range n (lo + j) t in
-            let q : p ≡ lo + j - 32 = hp ∙ (rw t) in
-            let z : 32 + p ≡ lo + j = omega arith in
-            let x : new ≡ cond (acts b f && owned c (getD (swept j) p noSlot)) (written b f (getD (swept j) p noSlot)) (getD (swept j) p noSlot) =
-            hn ∙ (rw (ht, hi, t, he)) in
-            ap (set (swept j) p) x
-            ∙ mapAt-edit (upTo j) (upTo (j + 1)) (λ s. cond (acts b f && owned c s) (written b f s) s) noSlot p l
-            (λ s. ap (λ (y : Slot). cond (acts b f && owned c y) (written b f y) y) (untouched j p s z) ∙ next j p f s z t hf)
-            (λ i s h. other j i s (λ w. h (omega arith)))
-        go false t =
-            let x : new ≡ getD (swept j) p noSlot = hn ∙ (rw (ht, hi, t)) in
-            ap (set (swept j) p) x ∙ set-getD (swept j) p noSlot ∙ mapAt-same (upTo j) (upTo (j + 1)) l (λ i s. beside j i s t)
+    pub swept-more : (f : ℕ) (new : Slot) → f ≡ field b value lo i → new ≡ fieldWritten e b f (getD (swept i) p noSlot) → set (swept i) p new ≡ swept (i + 1)
+    swept-more f new hf hn =
+        ap (set (swept i) p) hn
+        ∙ mapAt-edit (upTo i) (upTo (i + 1)) (fieldWritten e b f) noSlot p l
+        (λ s. ap (fieldWritten e b f) (untouched s) ∙ next f s hf)
+        (λ q s h. other q s h)
 
     -- whether the code lists the INTID
-    regroup : (t u a o d : Bool) → (t && u && (a && o) && d) ≡ (t && (u && a && o && d))
-    regroup true true true o d = refl
-    regroup true true false o d = refl
-    regroup true false a o d = refl
-    regroup false u a o d = refl
+    pub listed-here : (f m : ℕ) (on : Bool) → f ≡ field b value lo i → i < lo + m → on ≡ fieldListed e b f (getD (swept i) p noSlot) → on ≡ candidate e n b value lo m l i
+    listed-here f m on hf hm ho =
+        let S : getD (swept i) p noSlot ≡ slotOf l i = getD-mapAt (upTo i) p l noSlot untouched ∙ (rw at) in
+        let z = covers-yes n lo m i (omega arith) hm (omega arith) high in
+        ho ∙ (rw (S, z, hf))
 
-    dead : (t u d o w : Bool) → (t && u && false && d) ≡ (t && (u && false && o && w))
-    dead true true d o w = refl
-    dead true false d o w = refl
-    dead false u d o w = refl
+  -- after the last turn all is written: what is left lies beyond the table
+  pub all-written : (m i : ℕ) → max lo 32 ≤ i → i ≤ max (max lo 32) (min (lo + m) (32 + n)) → min (lo + m) (32 + n) ≤ i → swept i ≡ mapAt (λ p. bankSlot e n b value lo m (32 + p)) l
+  all-written m i low high done =
+      mapAt-same (upTo i) (λ p. bankSlot e n b value lo m (32 + p)) l
+      (λ p s. let z = covers-same n lo (i - lo) m (32 + p) (omega arith) (λ x y w. omega arith) (λ x y w. omega arith) in rw z)
 
-    pub noted : (tells : Bool) (m : ℕ) → j < m
-        → (tells && lists b && touched && deliverableIn (new .interrupt)) ≡ (tells && candidate c n b value lo m l (lo + j))
-    noted tells m h = go (inTable n (lo + j)) refl
-      where
-        last : within lo (lo + m) (lo + j) ≡ true
-        last = within-last lo j m h
+pub one-more : (i first end : ℕ) → i < end → i + 1 ≤ max first end
+one-more i first end h = omega arith
 
-        go : (t : Bool) → inTable n (lo + j) ≡ t
-            → (tells && lists b && touched && deliverableIn (new .interrupt)) ≡ (tells && candidate c n b value lo m l (lo + j))
-        go true t =
-            let low = in-range n (lo + j) t in
-            let q : p ≡ lo + j - 32 = hp ∙ (rw t) in
-            let z : 32 + p ≡ lo + j = omega arith in
-            let s : Slot = slotOf l (lo + j) in
-            let S : getD (swept j) p noSlot ≡ s = getD-mapAt (upTo j) p l noSlot (λ x. untouched j p x z) ∙ ap (λ (k : ℕ). getD l k noSlot) q in
-            let X : touched ≡ (acts b f && owned c s) = ht ∙ (rw (hi, t, he, S)) in
-            let R : reaches c n b value lo m (lo + j) ≡ acts b f = let w = last in rw (w, t, hf) in
-            let N : new ≡ bankSlot c n b value lo m (lo + j) s = hn ∙ (rw (X, S, R, hf)) in
-            rw (X, N, R) (regroup tells (lists b) (acts b f) (owned c s) (deliverableIn (cond (acts b f && owned c s) (written b (field b value lo (lo + j)) s) s .interrupt)))
-        go false t =
-            let X : touched ≡ false = ht ∙ (rw (hi, t)) in
-            let R : reaches c n b value lo m (lo + j) ≡ false = let w = last in rw (w, t) in
-            rw (X, R) (dead tells (lists b) (deliverableIn (new .interrupt)) _ _)
+-- ---- a turn of the code, in its own terms
 
--- a turn of the code, in its own terms
-module _ (d₀ : DistributorState) (b : Bank) (lo m value : ℕ) (tells : Bool) (j p f : ℕ) (inside e : Bool) (new : Slot) (on : Bool) (d : DistributorState) (v : ℕ)
-    (hd : d ≡ withSlots d₀ (swept (d₀ .config) (size d₀) b value lo (d₀ .slots) j))
-    (hi : inside ≡ inTable (size d₀) (lo + j)) (he : e ≡ explicit (d₀ .config .«spi_ownership»))
-    (hp : p ≡ cond (inTable (size d₀) (lo + j)) (lo + j - 32) 0) (hf : f ≡ v % 2 ^ bitsOf b) (hv : v ≡ value / (2 ^ bitsOf b) ^ j)
-    (hw : new ≡ turned inside e b f (getD (d .slots) p noSlot)) (ho : on ≡ listed inside e b f (getD (d .slots) p noSlot)) where
-  slots-are : d .slots ≡ swept (d₀ .config) (size d₀) b value lo (d₀ .slots) j
-  slots-are = ap (λ (x : DistributorState). x .slots) hd
+module _ (d₀ : DistributorState) (b : Bank) (lo m value : ℕ) (tells : Bool) where
+  abbrev pub E : Bool
+  E = explicit (d₀ .config .«spi_ownership»)
 
-  digit : f ≡ field b value lo (lo + j)
-  digit = hf ∙ field-at b value v lo j hv
+  abbrev pub N : ℕ
+  N = tableSize (d₀ .«spi_count»)
 
-  newer : new ≡ turned inside e b f (getD (swept (d₀ .config) (size d₀) b value lo (d₀ .slots) j) p noSlot)
-  newer = hw ∙ ap (λ (l : List Slot). turned inside e b f (getD l p noSlot)) slots-are
+  -- who is listed
+  abbrev pub test : ℕ → Bool
+  test i = tells && candidate E N b value lo m (d₀ .slots) i
 
-  pub state-more : withSlots d (set (d .slots) p new) ≡ withSlots d₀ (swept (d₀ .config) (size d₀) b value lo (d₀ .slots) (j + 1))
-  state-more =
-      ap (λ (x : DistributorState). withSlots x (set (x .slots) p new)) hd
-      ∙ ap (withSlots d₀) (swept-more (d₀ .config) (size d₀) b value lo (d₀ .slots) j p f inside e _ new hi he hp digit refl newer)
+  pub test-in : (i : ℕ) → test i ≡ true → (32 ≤ i) × (i < 32 + N)
+  test-in i e = go tells e
+    where
+      go : (t : Bool) → (t && candidate E N b value lo m (d₀ .slots) i) ≡ true → (32 ≤ i) × (i < 32 + N)
+      go true e = candidate-in E N b value lo m (d₀ .slots) i e
+      go false e = absurd (false≢true e)
 
-  apart : (t u w x : Bool) → (t && (u && w && x)) ≡ (t && u && w && x)
-  apart true u w x = refl
-  apart false u w x = refl
+  -- those of the INTIDs that the loop goes through are all
+  pub all-listed : passing test lo m ≡ passing test (max lo 32) (min (lo + m) (32 + N) - max lo 32)
+  all-listed = passing-inside test 32 (32 + N) test-in lo m
 
-  pub on-more : j < m → (tells && on) ≡ (tells && candidate (d₀ .config) (size d₀) b value lo m (d₀ .slots) (lo + j))
-  on-more h =
-      ap (λ (x : Bool). tells && x) (ho ∙ ap (λ (l : List Slot). listed inside e b f (getD l p noSlot)) slots-are)
-      ∙ apart tells (lists b) (touches inside e b f (getD (swept (d₀ .config) (size d₀) b value lo (d₀ .slots) j) p noSlot)) _
-      ∙ ap (λ (s : Slot). tells && lists b && touches inside e b f (getD (swept (d₀ .config) (size d₀) b value lo (d₀ .slots) j) p noSlot) && deliverableIn (s .interrupt)) (sym newer)
-      ∙ noted (d₀ .config) (size d₀) b value lo (d₀ .slots) j p f inside e _ new hi he hp digit refl newer tells m h
+  module _ (i p f v : ℕ) (x : Bool) (new : Slot) (on : Bool) (d : DistributorState)
+      (low : max lo 32 ≤ i) (high : i < min (lo + m) (32 + N)) (at : p ≡ i - 32) (hx : x ≡ E)
+      (hd : d ≡ withSlots d₀ (swept E N b value lo (d₀ .slots) i)) (hv : v ≡ value / (2 ^ bitsOf b) ^ (i - lo)) (hf : f ≡ v % 2 ^ bitsOf b)
+      (hn : new ≡ fieldWritten x b f (getD (d .slots) p noSlot)) (ho : on ≡ fieldListed x b f (getD (d .slots) p noSlot)) where
+    slots-are : d .slots ≡ swept E N b value lo (d₀ .slots) i
+    slots-are = ap (λ (y : DistributorState). y .slots) hd
+
+    digit : f ≡ field b value lo i
+    digit = hf ∙ (rw hv)
+
+    pub state-more : withSlots d (set (d .slots) p new) ≡ withSlots d₀ (swept E N b value lo (d₀ .slots) (i + 1))
+    state-more =
+        ap (λ (y : DistributorState). withSlots y (set (y .slots) p new)) hd
+        ∙ ap (withSlots d₀) (swept-more E N b value lo (d₀ .slots) i p low (omega arith) at f new digit (hn ∙ (rw (hx, slots-are))))
+
+    pub on-more : (tells && on) ≡ test i
+    on-more = ap (λ (y : Bool). tells && y) (listed-here E N b value lo (d₀ .slots) i p low (omega arith) at f m on digit (omega arith) (ho ∙ (rw (hx, slots-are))))

@@ -1,10 +1,5 @@
-pub mod Calls
+pub mod Model
+pub mod ModelLaws
 pub mod Loops
-pub mod Told
+pub mod Writes
 pub mod Host
-pub mod Create
-pub mod Questions
-pub mod ReadLaws
-pub mod Replies
-pub mod ToldLaws
-pub mod WriteLaws

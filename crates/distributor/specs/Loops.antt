@@ -3,7 +3,7 @@ use Prim.Native.Nat.{ℕ}
 use mathlib.Core.Path.{_≡_}
 use mathlib.Core.List.{List}
 use lib.ListN.{length}
-use Rattle.theory.specs.Places.{laid}
+use Rattle.theory.specs.Lists.{laid}
 use Rattle.slot.specs.declared.slot.Slot.{Slot}
 use Rattle.distributor.specs.declared.distributor.DistributorState.{DistributorState}
 
@@ -11,5 +11,5 @@ abbrev pub withSlots : DistributorState → List Slot → DistributorState
 withSlots d l = record { config = d .config; enabled = d .enabled; «spi_count» = d .«spi_count»; slots = l }
 
 -- the list `new` is the list `old` with the candidates in its first places, and n is their number
-abbrev pub Told : List ℕ → List ℕ → List ℕ → ℕ → Type 0
-Told candidates old new n = (new ≡ laid candidates old) × (n ≡ length candidates)
+abbrev pub Lists : List ℕ → List ℕ → List ℕ → ℕ → Type 0
+Lists candidates old new n = (new ≡ laid candidates old) × (n ≡ length candidates)

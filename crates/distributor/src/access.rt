@@ -4,36 +4,33 @@ use crate::distributor::list_deliverable;
 use crate::distributor::read_fields;
 use crate::distributor::write_fields;
 use bank::bank::Bank;
-use bank::bank::Beyond;
 use bank::bank::first_beyond;
 use bank::bank::read_beyond;
-use identifiers::error::Refusal;
-use registers::identity::component_id;
-use registers::identity::ctlr;
-use registers::identity::typer;
+use controller::identity::IIDR;
+use controller::identity::component_id;
+use controller::identity::ctlr;
+use controller::identity::switch_bit;
+use controller::identity::typer;
+use registers::answer::ReadAnswer;
+use registers::answer::WriteAnswer;
+use registers::answer::read_answer;
+use registers::answer::write_answer;
 use registers::register::Access;
 use registers::register::AccessWidth;
 use registers::register::Direction;
 use registers::register::Register;
 use registers::register::decode;
+use registers::register::write_access;
 ghost use mathlib.Core.Path.{_≡_};
-ghost use Prim.Native.Nat.{_*_, _≤_, _<_};
+ghost use Prim.Native.Nat.{_+_, _*_, _≤_, _<_};
 ghost use lib.ListN.{length};
+ghost use Rattle.place.specs.Table.{tableSize};
 ghost use Rattle.bank.specs.Banks.{bitsOf};
-ghost use Rattle.distributor.specs.Calls.{read, write, size, plain, readReply, reply, step};
-ghost use Rattle.registers.specs.Registers.{Bounded};
-ghost use Rattle.distributor.specs.Told.{toldRead, toldWrite, Writes};
-
-pub enum ReadAnswer {
-    Value(u64),
-    Refused(Refusal),
-}
-
-pub enum WriteAnswer {
-    // How many candidates stand in the first places of the list.
-    Listed(usize),
-    Refused(Refusal),
-}
+ghost use Rattle.registers.specs.MapRows.{Bounded, Whole};
+ghost use Rattle.registers.specs.Answers.{toldRead, toldWrite};
+ghost use Rattle.model.specs.Calls.{read, write, plain, readReply, reply, step};
+ghost use Rattle.distributor.specs.Model.{modelOf};
+ghost use Rattle.distributor.specs.Writes.{Writes};
 
 pub struct Wrote {
     pub state: DistributorState,
@@ -42,32 +39,30 @@ pub struct Wrote {
 
 impl DistributorState {
     fn read_bank(self, bank: Bank, lo: u32, m: u32) -> ReadAnswer
-        requires { ⌜ (lo < 0x10000) × (m ≤ 64) × (bitsOf bank * m ≤ 64) ⌝ }
-        ensures { λ r. ⌜ plain (toldRead r) ≡ readReply self (Access.To (Register.Fields bank lo m)) ⌝ }
+        requires { ⌜ (lo < 0x10000) × (m ≤ 64) × (bitsOf bank * m ≤ 64) × (lo < 32 → lo + m ≤ 32) ⌝ }
+        ensures { λ r. ⌜ plain (toldRead r) ≡ readReply (modelOf self) (Access.To (Register.Fields bank lo m)) ⌝ }
     {
-        match read_beyond(self.is_explicit(), self.size(), bank, lo, m) {
-            Beyond::At(i) => ReadAnswer::Refused(Refusal::InvalidIntId(i)),
-            Beyond::Nothing => ReadAnswer::Value(read_fields(self, bank, lo, m)),
-        }
+        let beyond = read_beyond(self.is_explicit(), self.size(), bank, lo, m);
+        read_answer(beyond, read_fields(self, bank, lo, m))
     }
 
     fn read_register(self, register: Register) -> ReadAnswer
-        requires { ⌜ Bounded register ⌝ }
-        ensures { λ r. ⌜ plain (toldRead r) ≡ readReply self (Access.To register) ⌝ }
+        requires { ⌜ Bounded register × Whole register ⌝ }
+        ensures { λ r. ⌜ plain (toldRead r) ≡ readReply (modelOf self) (Access.To register) ⌝ }
     {
         match register {
-            Register::Identification(k) => ReadAnswer::Value(component_id(k)),
-            Register::Ctlr => ReadAnswer::Value(ctlr(self.enabled)),
-            Register::Typer => ReadAnswer::Value(typer(self.config, self.spi_count)),
-            Register::Iidr => ReadAnswer::Value(0x43b),
+            Register::Identification(k) => ReadAnswer::Done(component_id(k)),
+            Register::Ctlr => ReadAnswer::Done(ctlr(self.enabled)),
+            Register::Typer => ReadAnswer::Done(typer(self.config, self.spi_count)),
+            Register::Iidr => ReadAnswer::Done(IIDR),
             Register::Fields(bank, lo, m) => self.read_bank(bank, lo, m),
-            Register::Reserved => ReadAnswer::Value(0),
+            Register::Reserved => ReadAnswer::Done(0),
         }
     }
 
     // A guest read. Refusals 3, 4 and 1, in this order.
     pub fn read(self, offset: u64, width: AccessWidth) -> ReadAnswer
-        ensures { λ r. ⌜ plain (toldRead r) ≡ reply (read offset width) self ⌝ }
+        ensures { λ r. ⌜ plain (toldRead r) ≡ reply (read offset width) (modelOf self) ⌝ }
     {
         let config = self.config;
         match decode(Direction::Reading, config.distributor_size, offset, width) {
@@ -76,96 +71,76 @@ impl DistributorState {
         }
     }
 
+    // Refused or not, the fields inside the table are written.
     fn write_bank(self, bank: Bank, lo: u32, m: u32, value: u64, list: &mut [u32]) -> Wrote
-        requires { ⌜ (lo < 0x10000) × (m ≤ 64) × (size self ≤ length (now list)) ⌝ }
+        requires { ⌜ (lo < 0x10000) × (m ≤ 64) × (tableSize (self .«spi_count») ≤ length (now list)) ⌝ }
         ensures { λ r. ⌜ Writes self (Access.To (Register.Fields bank lo m)) value (now (list .entry)) r (now (list .exit)) ⌝ }
     {
-        match first_beyond(self.is_explicit(), self.size(), bank, value, lo, m) {
-            Beyond::At(i) => {
-                let w = write_fields(self, bank, lo, m, value, false, list);
-                let state = w.state;
-                Wrote {
-                    state: state,
-                    answer: WriteAnswer::Refused(Refusal::InvalidIntId(i)),
-                }
-            }
-            Beyond::Nothing => {
-                let w = write_fields(self, bank, lo, m, value, true, list);
-                let state = w.state;
-                Wrote {
-                    state: state,
-                    answer: WriteAnswer::Listed(w.count),
-                }
-            }
+        let beyond = first_beyond(self.is_explicit(), self.size(), bank, value, lo, m);
+        let w = write_fields(self, bank, lo, m, value, beyond.lists(), list);
+        let state = w.state;
+        Wrote {
+            state: state,
+            answer: write_answer(beyond, w.count),
         }
     }
 
-    // The switch is bit 1. Turned on, it lists what is deliverable.
+    // Turned on, the switch lists what is deliverable.
     fn write_ctlr(mut self, value: u64, list: &mut [u32]) -> Wrote
-        requires { ⌜ size self ≤ length (now list) ⌝ }
+        requires { ⌜ tableSize (self .«spi_count») ≤ length (now list) ⌝ }
         ensures { λ r. ⌜ Writes self (Access.To Register.Ctlr) value (now (list .entry)) r (now (list .exit)) ⌝ }
     {
-        let on = value / 2 % 2 == 1;
+        let on = switch_bit(value);
         self.enabled = on;
         if on {
             let count = list_deliverable(self, list);
             Wrote {
                 state: self,
-                answer: WriteAnswer::Listed(count),
+                answer: WriteAnswer::Done(count),
             }
         } else {
             Wrote {
                 state: self,
-                answer: WriteAnswer::Listed(0),
+                answer: WriteAnswer::Done(0),
             }
         }
     }
 
-    // A write that is ignored.
-    fn unwritten(self) -> Wrote
-        ensures { λ r. ⌜ (r .state ≡ self) × (r .answer ≡ WriteAnswer.Listed 0) ⌝ }
+    // A write that changes nothing: ignored, or refused.
+    fn unchanged(self, answer: WriteAnswer) -> Wrote
+        ensures { λ r. ⌜ (r .state ≡ self) × (r .answer ≡ answer) ⌝ }
     {
         Wrote {
             state: self,
-            answer: WriteAnswer::Listed(0),
+            answer: answer,
         }
     }
 
     fn write_register(self, register: Register, value: u64, list: &mut [u32]) -> Wrote
-        requires { ⌜ Bounded register × (size self ≤ length (now list)) ⌝ }
+        requires { ⌜ Bounded register × (tableSize (self .«spi_count») ≤ length (now list)) ⌝ }
         ensures { λ r. ⌜ Writes self (Access.To register) value (now (list .entry)) r (now (list .exit)) ⌝ }
     {
         match register {
-            Register::Identification(_) => self.unwritten(),
+            Register::Identification(_) => self.unchanged(WriteAnswer::Done(0)),
             Register::Ctlr => self.write_ctlr(value, list),
-            Register::Typer => self.unwritten(),
-            Register::Iidr => self.unwritten(),
+            Register::Typer => self.unchanged(WriteAnswer::Done(0)),
+            Register::Iidr => self.unchanged(WriteAnswer::Done(0)),
             Register::Fields(bank, lo, m) => self.write_bank(bank, lo, m, value, list),
-            Register::Reserved => self.unwritten(),
+            Register::Reserved => self.unchanged(WriteAnswer::Done(0)),
         }
     }
 
-    fn refused(self, refusal: Refusal) -> Wrote
-        ensures { λ r. ⌜ (r .state ≡ self) × (r .answer ≡ WriteAnswer.Refused refusal) ⌝ }
-    {
-        Wrote {
-            state: self,
-            answer: WriteAnswer::Refused(refusal),
-        }
-    }
-
-    // A guest write. Refusals 5, 3, 4 and 1, in this order; refused 1, it has done its work inside the table and listed nothing.
+    // A guest write. Refusals 5, 3, 4 and 1, in this order. Refused 1, it has done its work inside the table and listed nothing: the
+    // host has to look for deliverable SPIs himself.
     pub fn write(self, offset: u64, width: AccessWidth, value: u64, list: &mut [u32]) -> Wrote
-        ensures state { λ r. ⌜ r .state ≡ step (write offset width value (now (list .entry))) self ⌝ }
-        ensures answer { λ r. ⌜ record { answer = toldWrite (r .answer); list = now (list .exit) } ≡ reply (write offset width value (now (list .entry))) self ⌝ }
+        ensures state { λ r. ⌜ modelOf (r .state) ≡ step (write offset width value (now (list .entry))) (modelOf self) ⌝ }
+        ensures answer { λ r. ⌜ record { answer = toldWrite (r .answer); list = now (list .exit) } ≡ reply (write offset width value (now (list .entry))) (modelOf self) ⌝ }
     {
-        if list.len() < self.size() as usize {
-            return self.refused(Refusal::ShortList);
-        }
         let config = self.config;
-        match decode(Direction::Writing, config.distributor_size, offset, width) {
+        let frame = config.distributor_size;
+        match write_access(list.len(), self.size(), frame, offset, width) {
             Access::To(register) => self.write_register(register, value, list),
-            Access::Refused(refusal) => self.refused(refusal),
+            Access::Refused(refusal) => self.unchanged(WriteAnswer::Refused(refusal)),
         }
     }
 }

@@ -1,18 +1,22 @@
 // Creation, and the host's calls on the switch.
 use crate::distributor::DistributorState;
+use controller::controller::ControllerConfig;
 use identifiers::error::Refusal;
 use identifiers::types::SpiId;
-use identifiers::types::SpiIdAnswer;
-use registers::controller::ControllerConfig;
+use place::place::SPIS;
 use slot::slot::Slot;
 ghost use mathlib.Core.Path.{_≡_};
 ghost use mathlib.Core.Bool.{cond};
 ghost use lib.Dec.{leb};
-ghost use Rattle.distributor.specs.Calls.{created, createAnswer, isEnabled, rollback, reply, step};
-ghost use Rattle.distributor.specs.Create.{toldCreate, switchAnswer};
+ghost use Prim.Native.Nat.{_+_};
+ghost use Rattle.theory.specs.Lists.{tabulate};
+ghost use Rattle.place.specs.Table.{capacity};
+ghost use Rattle.slot.specs.Slots.{freshSpi};
+ghost use Rattle.model.specs.Calls.{created, createAnswer, isSwitchedOn, rollback, reply, step};
+ghost use Rattle.distributor.specs.Model.{modelOf, toldCreate, switchReply};
 
 pub enum CreateAnswer {
-    Made,
+    Done,
     Refused(Refusal),
 }
 
@@ -22,59 +26,60 @@ pub struct Created {
     pub answer: CreateAnswer,
 }
 
+// A fresh SPI in every place.
+fn fresh_slots() -> [Slot; SPIS]
+    ensures { λ r. ⌜ r ≡ tabulate (λ p. freshSpi (32 + p)) 0 capacity ⌝ }
+{
+    let mut slots = [Slot::fresh(SpiId::nth(0)); SPIS];
+    let mut p: usize = 0;
+    while p < SPIS {
+        slots[p] = Slot::fresh(SpiId::nth(p as u32));
+        p += 1;
+    }
+    slots
+}
+
 impl DistributorState {
-    fn empty(config: ControllerConfig) -> Self
-        ensures { λ r. ⌜ r ≡ created config 0 ⌝ }
+    fn made(config: ControllerConfig, spi_count: u32) -> Self
+        ensures { λ r. ⌜ modelOf r ≡ created config «spi_count» ⌝ }
     {
-        let first = Slot::fresh(SpiId::FIRST);
-        let slots = [first; 988];
+        let slots = fresh_slots();
         DistributorState {
             config: config,
             enabled: false,
-            spi_count: 0,
+            spi_count: spi_count,
             slots: slots,
         }
     }
 
-    // A Distributor of so many SPIs. The first INTID that is no SPI's ends the making of one with more than 988.
+    // A Distributor of so many SPIs. More than 988 are refused, carrying 1020, the first INTID past the SPIs.
     pub fn new(config: ControllerConfig, spi_count: u32) -> Created
-        ensures state { λ r. ⌜ r .state ≡ created config (cond (leb «spi_count» 988) «spi_count» 0) ⌝ }
+        ensures state { λ r. ⌜ modelOf (r .state) ≡ created config (cond (leb «spi_count» capacity) «spi_count» 0) ⌝ }
         ensures answer { λ r. ⌜ toldCreate (r .answer) ≡ createAnswer «spi_count» ⌝ }
     {
-        let mut made = DistributorState::empty(config);
-        let mut j: u32 = 0;
-        while j < spi_count {
-            match SpiId::new(32 + j) {
-                SpiIdAnswer::Made(spi) => {
-                    let p = j as usize;
-                    made.slots[p] = Slot::fresh(spi);
-                    j += 1;
-                }
-                SpiIdAnswer::Refused(refusal) => {
-                    return Created {
-                        state: DistributorState::empty(config),
-                        answer: CreateAnswer::Refused(refusal),
-                    };
-                }
+        if spi_count <= SPIS as u32 {
+            Created {
+                state: DistributorState::made(config, spi_count),
+                answer: CreateAnswer::Done,
             }
-        }
-        made.spi_count = spi_count;
-        Created {
-            state: made,
-            answer: CreateAnswer::Made,
+        } else {
+            Created {
+                state: DistributorState::made(config, 0),
+                answer: CreateAnswer::Refused(Refusal::InvalidIntId(1020)),
+            }
         }
     }
 
-    // Whether the switch is on.
-    pub fn enabled(self) -> bool
-        ensures { λ r. ⌜ switchAnswer r ≡ reply isEnabled self ⌝ }
+    // Whether the master switch is on: CTLR bit 1.
+    pub fn is_switched_on(self) -> bool
+        ensures { λ r. ⌜ switchReply r ≡ reply isSwitchedOn (modelOf self) ⌝ }
     {
         self.enabled
     }
 
     // The host puts the switch back.
     pub fn set_enabled_for_rollback(mut self, enabled: bool) -> Self
-        ensures { λ r. ⌜ r ≡ step (rollback enabled) self ⌝ }
+        ensures { λ r. ⌜ modelOf r ≡ step (rollback enabled) (modelOf self) ⌝ }
     {
         self.enabled = enabled;
         self

@@ -1,44 +1,48 @@
-// The Distributor: its table of SPIs, and the loops over it.
+// The Distributor: its table of SPIs, and the loops over it. Only a `Place` of an SPI of the table leads to a slot.
 use bank::bank::Bank;
-use registers::controller::ControllerConfig;
-use registers::place::Place;
-use registers::place::in_table;
-use registers::place::table_size;
+use controller::controller::ControllerConfig;
+use place::place::Place;
+use place::place::SPIS;
+use place::place::Span;
+use place::place::table_size;
 use slot::slot::Slot;
 ghost use mathlib.Core.Path.{_≡_};
 ghost use mathlib.Core.Bool.{true, cond, _&&_};
 ghost use Prim.Native.Nat.{_+_, _*_, _≤_, _<_};
 ghost use lib.ListN.{length, set};
-ghost use Rattle.theory.specs.Places.{mapAt, passing};
+ghost use Rattle.theory.specs.Lists.{mapAt, passing};
+ghost use Rattle.place.specs.Table.{tableSize};
 ghost use Rattle.bank.specs.Banks.{bitsOf};
-ghost use Rattle.registers.specs.Ownership.{explicit};
+ghost use Rattle.controller.specs.Ownership.{explicit};
 ghost use Rattle.slot.specs.BankRule.{bankValue, bankSlot, candidate};
-ghost use Rattle.distributor.specs.Calls.{size, deliverableAt};
-ghost use Rattle.distributor.specs.Loops.{withSlots, Told};
+ghost use Rattle.model.specs.Calls.{deliverableAt};
+ghost use Rattle.distributor.specs.Loops.{withSlots, Lists};
 
+// Only this crate makes one or changes its fields: a claim cannot be forged, and nothing but a call changes an SPI.
 pub struct DistributorState {
-    pub config: ControllerConfig,
+    pub(crate) config: ControllerConfig,
     // The master switch, CTLR bit 1.
-    pub enabled: bool,
-    // How many SPIs there are: those of INTIDs 32 to 31 + spi_count, in the first places of the table.
-    pub spi_count: u32,
-    pub slots: [Slot; 988],
+    pub(crate) enabled: bool,
+    // How many SPIs it was made for: those of INTIDs 32 to 31 + spi_count, in the first places of the table.
+    pub(crate) spi_count: u32,
+    pub(crate) slots: [Slot; SPIS],
 }
 
 // Where a write stands: the state, and how many candidates are listed.
-pub struct Listed {
-    pub state: DistributorState,
-    pub count: usize,
+pub(crate) struct Listed {
+    pub(crate) state: DistributorState,
+    pub(crate) count: usize,
 }
 
 impl DistributorState {
-    // How many records the table has: never more than its places.
+    // How many SPIs there are.
     pub fn size(self) -> u32
-        ensures { λ r. ⌜ r ≡ size self ⌝ }
+        ensures { λ r. ⌜ r ≡ tableSize (self .«spi_count») ⌝ }
     {
         table_size(self.spi_count)
     }
 
+    // Whether claims decide what is the guest's.
     pub fn is_explicit(self) -> bool
         ensures { λ r. ⌜ r ≡ explicit (self .config .«spi_ownership») ⌝ }
     {
@@ -48,8 +52,17 @@ impl DistributorState {
     }
 }
 
+impl DistributorState {
+    // A copy of all slots, INTID 32's first. Those past the last SPI are fresh.
+    pub fn slots(self) -> [Slot; SPIS]
+        ensures { λ r. ⌜ r ≡ self .slots ⌝ }
+    {
+        self.slots
+    }
+}
+
 // The list gets one candidate more, or none.
-fn note(list: &mut [u32], count: usize, intid: u32, on: bool) -> usize
+fn list_if(on: bool, list: &mut [u32], count: usize, intid: u32) -> usize
     requires { ⌜ (on ≡ true → count < length (now list)) ⌝ }
     ensures { λ r. ⌜ (now (list .exit) ≡ cond on (set (now (list .entry)) count intid) (now (list .entry))) × (r ≡ cond on (count + 1) count) ⌝ }
 {
@@ -60,21 +73,21 @@ fn note(list: &mut [u32], count: usize, intid: u32, on: bool) -> usize
     count
 }
 
-// The m fields of a bank from INTID lo on, read from the highest down.
+// The m fields of a bank from INTID lo on, read from the highest down. An INTID that is not in the table shows 0.
 pub(crate) fn read_fields(d: DistributorState, bank: Bank, lo: u32, m: u32) -> u64
-    requires { ⌜ (lo < 0x10000) × (m ≤ 64) × (bitsOf bank * m ≤ 64) ⌝ }
-    ensures { λ r. ⌜ r ≡ bankValue (d .config) (size d) bank lo m (d .slots) ⌝ }
+    requires { ⌜ (lo < 0x10000) × (m ≤ 64) × (bitsOf bank * m ≤ 64) × (lo < 32 → lo + m ≤ 32) ⌝ }
+    ensures { λ r. ⌜ r ≡ bankValue (explicit (d .config .«spi_ownership»)) (tableSize (d .«spi_count»)) bank lo m (d .slots) ⌝ }
 {
-    let spis = d.spi_count;
     let explicit = d.is_explicit();
+    let span = Span::new(d.spi_count, lo, m);
+    let first = span.first;
     let mut value: u64 = 0;
-    let mut j = m;
-    while 0 < j {
-        j -= 1;
-        let inside = in_table(spis, lo + j);
-        let p = Place::or_first(spis, lo + j).index();
+    let mut i = span.end;
+    while first < i {
+        i -= 1;
+        let p = Place::of(i).index();
         let s = d.slots[p];
-        value = bank.joined(value, s.showing(inside, explicit, bank));
+        value = bank.put_below(value, s.showing(explicit, bank));
     }
     value
 }
@@ -89,25 +102,25 @@ pub(crate) fn write_fields(
     tells: bool,
     list: &mut [u32],
 ) -> Listed
-    requires { ⌜ (lo < 0x10000) × (m ≤ 64) × (size d ≤ length (now list)) ⌝ }
-    ensures { λ r. ⌜ (r .state ≡ withSlots d (mapAt (λ p. bankSlot (d .config) (size d) bank value lo m (32 + p)) (d .slots))) × Told (passing (λ i. tells && candidate (d .config) (size d) bank value lo m (d .slots) i) lo m) (now (list .entry)) (now (list .exit)) (r .count) ⌝ }
+    requires { ⌜ (lo < 0x10000) × (m ≤ 64) × (tableSize (d .«spi_count») ≤ length (now list)) ⌝ }
+    ensures { λ r. ⌜ (r .state ≡ withSlots d (mapAt (λ p. bankSlot (explicit (d .config .«spi_ownership»)) (tableSize (d .«spi_count»)) bank value lo m (32 + p)) (d .slots))) × Lists (passing (λ i. tells && candidate (explicit (d .config .«spi_ownership»)) (tableSize (d .«spi_count»)) bank value lo m (d .slots) i) lo m) (now (list .entry)) (now (list .exit)) (r .count) ⌝ }
 {
-    let spis = d.spi_count;
     let explicit = d.is_explicit();
-    let mut v = value;
+    let span = Span::new(d.spi_count, lo, m);
+    let first = span.first;
+    let end = span.end;
+    let mut v = bank.from_field(value, first - lo);
     let mut count: usize = 0;
-    let mut j: u32 = 0;
-    while j < m {
-        let i = lo + j;
-        let inside = in_table(spis, i);
-        let p = Place::or_first(spis, i).index();
+    let mut i = first;
+    while i < end {
+        let p = Place::of(i).index();
         let old = d.slots[p];
-        let turn = old.turn(inside, explicit, bank, bank.lowest(v));
-        let new = turn.slot;
+        let w = old.write_field(explicit, bank, bank.low_field(v));
+        let new = w.slot;
         d.slots[p] = new;
-        count = note(list, count, i, tells & turn.listed);
+        count = list_if(tells & w.listed, list, count, i);
         v = bank.above(v);
-        j += 1;
+        i += 1;
     }
     Listed {
         state: d,
@@ -115,20 +128,19 @@ pub(crate) fn write_fields(
     }
 }
 
-// Lists every deliverable record of the table.
+// Lists every deliverable SPI of the table.
 pub(crate) fn list_deliverable(d: DistributorState, list: &mut [u32]) -> usize
-    requires { ⌜ size d ≤ length (now list) ⌝ }
-    ensures { λ r. ⌜ Told (passing (deliverableAt (d .slots)) 32 (size d)) (now (list .entry)) (now (list .exit)) r ⌝ }
+    requires { ⌜ tableSize (d .«spi_count») ≤ length (now list) ⌝ }
+    ensures { λ r. ⌜ Lists (passing (deliverableAt (d .slots)) 32 (tableSize (d .«spi_count»))) (now (list .entry)) (now (list .exit)) r ⌝ }
 {
-    let n = d.size();
+    let end = 32 + d.size();
     let mut count: usize = 0;
-    let mut j: u32 = 0;
-    while j < n {
-        let p = j as usize;
+    let mut i: u32 = 32;
+    while i < end {
+        let p = Place::of(i).index();
         let s = d.slots[p];
-        let interrupt = s.interrupt;
-        count = note(list, count, 32 + j, interrupt.deliverable());
-        j += 1;
+        count = list_if(s.listed_by_switch(), list, count, i);
+        i += 1;
     }
     count
 }

@@ -1,40 +1,39 @@
-// The host's calls on one SPI. A change is named, done at the SPI's place by one function, and every public call is a line over that.
+// The host's calls on one SPI: a change that is named, and a question that is named. Each finds the SPI's place first.
 use crate::distributor::DistributorState;
-use identifiers::error::Refusal;
 use identifiers::types::SpiId;
-use interrupt::interrupt::InterruptRecord;
-use registers::place::Place;
-use registers::place::PlaceAnswer;
-use slot::change::Change;
-use slot::change::ChangeAnswer;
+use place::place::Place;
+use place::place::PlaceAnswer;
+use spi::change::Change;
+use spi::change::ChangeAnswer;
+use spi::change::change_answer;
+use spi::change::changed;
+use spi::question::Question;
+use spi::question::QuestionAnswer;
+use spi::question::SlotAnswer;
 ghost use mathlib.Core.Path.{_≡_};
-ghost use Rattle.identifiers.specs.Answer.{done};
-ghost use Rattle.slot.specs.Changes.{changed};
-ghost use Rattle.distributor.specs.Host.{callOf, interruptAnswer, Changes};
+ghost use Rattle.spi.specs.Questions.{questionAnswer, toldQuestion};
+ghost use Rattle.model.specs.Calls.{change, ask, plain, reply};
+ghost use Rattle.distributor.specs.Model.{modelOf};
+ghost use Rattle.distributor.specs.Host.{slotAnswer, Changes};
 
 pub struct Changed {
     pub state: DistributorState,
     pub answer: ChangeAnswer,
 }
 
-pub enum InterruptAnswer {
-    Found(InterruptRecord),
-    Refused(Refusal),
-}
-
 impl DistributorState {
-    // A change of one SPI. Refusals 1 and 2, in this order.
-    pub fn change(mut self, spi: SpiId, change: Change) -> Changed
-        ensures { λ r. ⌜ Changes (callOf change (spi .0)) self r ⌝ }
+    // A change of one SPI. Refusal 1 first, and then what the change itself refuses.
+    pub fn change(mut self, spi: SpiId, what: Change) -> Changed
+        ensures { λ r. ⌜ Changes (change what (spi .0)) self r ⌝ }
     {
         match Place::new(self.spi_count, spi.raw()) {
-            PlaceAnswer::At(place) => {
+            PlaceAnswer::Done(place) => {
                 let p = place.index();
                 let old = self.slots[p];
-                self.slots[p] = old.changed(change);
+                self.slots[p] = changed(old, what);
                 Changed {
                     state: self,
-                    answer: old.answer(change),
+                    answer: change_answer(old, what),
                 }
             }
             PlaceAnswer::Refused(refusal) => Changed {
@@ -44,18 +43,25 @@ impl DistributorState {
         }
     }
 
-    // The record of an SPI.
-    pub fn interrupt(self, spi: SpiId) -> InterruptAnswer
-        ensures { λ r. ⌜ r ≡ interruptAnswer self (spi .0) ⌝ }
+    // The slot of an SPI.
+    pub fn slot(self, spi: SpiId) -> SlotAnswer
+        ensures { λ r. ⌜ r ≡ slotAnswer (modelOf self) (spi .0) ⌝ }
     {
         match Place::new(self.spi_count, spi.raw()) {
-            PlaceAnswer::At(place) => {
+            PlaceAnswer::Done(place) => {
                 let p = place.index();
                 let s = self.slots[p];
-                let interrupt = s.interrupt;
-                InterruptAnswer::Found(interrupt)
+                SlotAnswer::Done(s)
             }
-            PlaceAnswer::Refused(refusal) => InterruptAnswer::Refused(refusal),
+            PlaceAnswer::Refused(refusal) => SlotAnswer::Refused(refusal),
         }
+    }
+
+    // A question about one SPI.
+    pub fn ask(self, spi: SpiId, question: Question) -> QuestionAnswer
+        ensures whole { λ r. ⌜ r ≡ questionAnswer question (slotAnswer (modelOf self) (spi .0)) ⌝ }
+        ensures told { λ r. ⌜ plain (toldQuestion r) ≡ reply (ask question (spi .0)) (modelOf self) ⌝ }
+    {
+        self.slot(spi).ask(question)
     }
 }

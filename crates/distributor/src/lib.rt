@@ -1,7 +1,5 @@
-// The GICv3 Distributor: its table of SPIs, and every call on it.
+// The GICv3 Distributor by value: its table of SPIs, the guest's accesses, and the host's calls.
 pub mod access;
-pub mod calls;
 pub mod create;
 pub mod distributor;
 pub mod host;
-pub mod questions;

@@ -8,33 +8,35 @@ use lib.Count.{leadingZeros}
 use Rattle.theory.specs.Runs.{run}
 use Rattle.identifiers.specs.Answer.{Answer, done, refused}
 use Rattle.identifiers.specs.Affinity.{affinity}
-use Rattle.interrupt.specs.Life.{fresh, routeIn, deliverableIn, enabledTo, pendingTo, priorityTo, triggerTo, routeTo, unrouted, levelTo, raised, pulsed}
+use Rattle.interrupt.specs.Life.{fresh, routeIn, deliverableIn, enabledTo, pendingTo, priorityTo, triggerTo, routeTo, unrouted, pulsed}
 use Rattle.operation.specs.declared.operation.Operation.the-variants.{SetEnabled, SetLevel, Pulse}
-use Rattle.registers.specs.declared.controller.ControllerConfig.{ControllerConfig}
-use Rattle.registers.specs.declared.controller.GicV3SpiOwnership.{GicV3SpiOwnership}
-use Rattle.registers.specs.declared.controller.GicV3SpiOwnership.the-variants.{AllGuestOwned, Explicit}
-use Rattle.distributor.specs.declared.distributor.DistributorState.{DistributorState}
+use Rattle.controller.specs.declared.controller.ControllerConfig.{ControllerConfig}
+use Rattle.controller.specs.declared.controller.GicV3SpiOwnership.{GicV3SpiOwnership}
+use Rattle.controller.specs.declared.controller.GicV3SpiOwnership.the-variants.{AllGuestOwned, Explicit}
 use Rattle.registers.specs.declared.register.AccessWidth.the-variants.{Byte, Dword, Qword}
 use Rattle.registers.specs.Registers.{decode}
-use Rattle.distributor.specs.Calls.{Call, create, read, write, claimSoftware, claimPhysical, release, operate, ask, pending, Reply, reply, step, created}
+use Rattle.spi.specs.declared.change.Change.the-variants.{Claim, ClaimTo, Release, Operate}
+use Rattle.spi.specs.declared.question.Question.the-variants.{Pending}
+use Rattle.model.specs.Calls.{Distributor, Call, create, read, write, change, ask, Reply, reply, step, created}
+use Rattle.examples.specs.Ends.{ends-same}
 
 -- frame 0x10000, no ITS, the flags clear
 abbrev plainConfig : GicV3SpiOwnership → ControllerConfig
 plainConfig o = record { «spi_ownership» = o; «distributor_size» = 0x10000; «exposes_guest_lpis» = false; its = false; «lpi_limit» = 0; «affinity_level_3» = false; «range_selector» = false }
 
 -- K: 40 SPIs, explicit claims; 33 and 64 claimed by software, 65 physically with affinity 0.0.0.1
-abbrev pub K : DistributorState
-K = run step (claimSoftware 33 ∷ claimSoftware 64 ∷ claimPhysical 65 (affinity 0 0 0 1) ∷ []) (created (plainConfig Explicit) 40)
+abbrev pub K : Distributor
+K = run step (change Claim 33 ∷ change Claim 64 ∷ change (ClaimTo (affinity 0 0 0 1)) 65 ∷ []) (created (plainConfig Explicit) 40)
 
 -- a lent list with just enough places for K, and for 988 SPIs
 abbrev lent : ℕ → List ℕ
 lent n = replicate n 0xa5a5
 
-abbrev pub told : Call → DistributorState → Answer
+abbrev pub told : Call → Distributor → Answer
 told c d = reply c d .answer
 
 -- what a call is told after the calls
-abbrev pub then : List Call → Call → DistributorState → Answer
+abbrev pub then : List Call → Call → Distributor → Answer
 then calls c d = told c (run step calls d)
 
 -- refused, or done, with what the list holds then
@@ -42,7 +44,7 @@ abbrev gives : Answer → List ℕ → Reply
 gives a l = record { answer = a; list = l }
 
 -- accesses to K by Dword, and to IROUTER by Qword
-abbrev reads : ℕ → DistributorState → Answer
+abbrev reads : ℕ → Distributor → Answer
 reads offset d = told (read offset Dword) d
 
 abbrev writes : ℕ → ℕ → Call
@@ -52,7 +54,7 @@ abbrev routes : ℕ → ℕ → Call
 routes offset v = write offset Qword v (lent 40)
 
 -- 988 SPIs, all guest-owned
-abbrev pub Full : DistributorState
+abbrev pub Full : Distributor
 Full = created (plainConfig AllGuestOwned) 988
 
 abbrev sets : Call
@@ -66,18 +68,18 @@ pub record Board : Type 0 where
   pub case4 : told (read (2 ^ 64 - 4) Dword) K ≡ refused 3 []
   pub case5 : reads 0x4 K ≡ done (0x780002 ∷ [])
   -- the list is as it was lent, and the state is K's with 64 and 65 enabled
-  pub case6 : (reply (writes 0x108 0x1ff) K ≡ gives (refused 1 (72 ∷ [])) (lent 40)) × (step (writes 0x108 0x1ff) K ≡ run step (operate (SetEnabled true) 64 ∷ operate (SetEnabled true) 65 ∷ []) K)
+  pub case6 : (reply (writes 0x108 0x1ff) K ≡ gives (refused 1 (72 ∷ [])) (lent 40)) × (step (writes 0x108 0x1ff) K ≡ run step (change (Operate (SetEnabled true)) 64 ∷ change (Operate (SetEnabled true)) 65 ∷ []) K)
   -- the whole state is K's
   pub case7 : (reply (writes 0x17c 0xf0000000) K ≡ gives (done (0 ∷ [])) (lent 40)) × (step (writes 0x17c 0xf0000000) K ≡ K)
   pub case8 : told (read 0x6108 Qword) (step (routes 0x6108 0x180020304) K) ≡ done (0x100020304 ∷ [])
   pub case9 : told (read 0x6208 Qword) (step (routes 0x6208 2) K) ≡ done (1 ∷ [])
-  pub case10 : told (ask pending 33) (run step (operate (SetLevel true) 33 ∷ writes 0x284 2 ∷ []) K) ≡ done (0 ∷ [])
+  pub case10 : told (ask Pending 33) (run step (change (Operate (SetLevel true)) 33 ∷ writes 0x284 2 ∷ []) K) ≡ done (0 ∷ [])
   -- one candidate, in the first place; the other 39 are as they were lent
-  pub case11 : reply (writes 0x0 2) (run step (operate (SetEnabled true) 33 ∷ operate Pulse 33 ∷ release 33 ∷ []) K) ≡ gives (done (1 ∷ [])) (33 ∷ lent 39)
+  pub case11 : reply (writes 0x0 2) (run step (change (Operate (SetEnabled true)) 33 ∷ change (Operate Pulse) 33 ∷ change Release 33 ∷ []) K) ≡ gives (done (1 ∷ [])) (33 ∷ lent 39)
   pub case12 : told (read 0x7f8 Qword) (step sets Full) ≡ done (0x44332211 ∷ [])
 
 pub board : Board
-unfolding reply step decode leadingZeros fresh routeIn deliverableIn enabledTo pendingTo triggerTo routeTo unrouted priorityTo levelTo raised pulsed
+unfolding reply step decode leadingZeros fresh routeIn deliverableIn enabledTo pendingTo triggerTo routeTo unrouted priorityTo pulsed
 board =
     record {
       case1 = (refl, refl);
@@ -85,8 +87,8 @@ board =
       case3 = (refl, refl);
       case4 = refl;
       case5 = refl;
-      case6 = (refl, refl);
-      case7 = (refl, refl);
+      case6 = (refl, ends-same K (writes 0x108 0x1ff ∷ []) (change (Operate (SetEnabled true)) 64 ∷ change (Operate (SetEnabled true)) 65 ∷ []) refl refl);
+      case7 = (refl, ends-same K (writes 0x17c 0xf0000000 ∷ []) [] refl refl);
       case8 = refl;
       case9 = refl;
       case10 = refl;

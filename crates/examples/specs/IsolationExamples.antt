@@ -8,54 +8,61 @@ use borrow.Author.Tests.{eqb-true}
 use lib.Dec.{eqb}
 use lib.ListN.{getD, replicate}
 use Rattle.theory.specs.Bools.{both}
-use Rattle.theory.specs.MapLaws.{relates-mapAt}
+use Rattle.theory.specs.MapAtLaws.{relates-mapAt}
 use Rattle.identifiers.specs.Answer.{done}
 use Rattle.interrupt.specs.Life.{fresh, deliverableIn, enabledTo, pulsed, routeTo}
 use Rattle.operation.specs.declared.operation.Operation.the-variants.{SetEnabled, Pulse}
-use Rattle.registers.specs.declared.controller.ControllerConfig.{ControllerConfig}
+use Rattle.controller.specs.Ownership.{explicit}
+use Rattle.place.specs.Table.{inTable}
 use Rattle.slot.specs.declared.slot.Slot.{Slot}
-use Rattle.distributor.specs.declared.distributor.DistributorState.{DistributorState}
 use Rattle.registers.specs.declared.register.AccessWidth.the-variants.{Dword}
 use Rattle.registers.specs.Registers.{decode}
-use Rattle.bank.specs.Banks.{inTable}
-use Rattle.slot.specs.Slots.{owned, through}
-use Rattle.slot.specs.BankRule.{noSlot, slotOf}
-use Rattle.distributor.specs.Calls.{Call, write, operate, size, after, step, reply}
-use Rattle.examples.specs.Board.{K}
+use Rattle.slot.specs.Slots.{owned, operated}
+use Rattle.slot.specs.NoSlot.{noSlot}
+use Rattle.slot.specs.BankRule.{slotOf}
+use Rattle.spi.specs.declared.change.Change.the-variants.{Operate}
+use Rattle.model.specs.Calls.{Distributor, Call, write, change, size, slotAfter, step, reply}
 use Rattle.order.specs.Isolation.{AlikeSlot, Alike}
+use Rattle.examples.specs.Board.{K}
 
-alike-itself : (c : ControllerConfig) (s : Slot) → AlikeSlot c s s
-alike-itself c s = record { claim = refl; mark = refl; contents = λ own. refl }
+module _ (e : Bool) (s : Slot) where
+  alike-itself : AlikeSlot e s s
+  alike-itself = record { claim = refl; mark = refl; interrupt = λ own. refl }
+
+  alike-pulsed : owned e s ≡ false → AlikeSlot e s (operated Pulse s)
+  alike-pulsed unowned = record { claim = refl; mark = refl; interrupt = λ own. absurd (true≢false (sym own ∙ unowned)) }
 
 -- a pulse on an unowned SPI
-pub pulse-alike : (d : DistributorState) (raw : ℕ) → owned (d .config) (slotOf (d .slots) raw) ≡ false → Alike d (step (operate Pulse raw) d)
+pub pulse-alike : (d : Distributor) (raw : ℕ) → owned (explicit (d .config .«spi_ownership»)) (slotOf (d .slots) raw) ≡ false → Alike d (step (change (Operate Pulse) raw) d)
 unfolding step
 pulse-alike d raw unowned =
     record {
       config = refl;
-      enabled = refl;
+      switch = refl;
       count = refl;
       slots = λ i.
-          relates-mapAt (AlikeSlot (d .config)) (λ p. after (d .config) (size d) (operate Pulse raw) (32 + p)) (i - 32) (d .slots) noSlot
-          (alike-itself (d .config) noSlot)
+          relates-mapAt (AlikeSlot e) (λ p. slotAfter (d .config) (size d) (change (Operate Pulse) raw) (32 + p)) (i - 32) (d .slots) noSlot
+          (alike-itself e noSlot)
           (there i (inTable (size d) (32 + (i - 32)) && eqb (32 + (i - 32)) raw) refl);
     }
   where
+    e : Bool
+    e = explicit (d .config .«spi_ownership»)
+
     there : (i : ℕ) (b : Bool) → (inTable (size d) (32 + (i - 32)) && eqb (32 + (i - 32)) raw) ≡ b
-        → AlikeSlot (d .config) (slotOf (d .slots) i) (cond b (through Pulse (slotOf (d .slots) i)) (slotOf (d .slots) i))
-    there i true e =
-        let same = eqb-true (32 + (i - 32)) raw (both (inTable (size d) (32 + (i - 32))) _ e .1) in
+        → AlikeSlot e (slotOf (d .slots) i) (cond b (operated Pulse (slotOf (d .slots) i)) (slotOf (d .slots) i))
+    there i true t =
+        let same = eqb-true (32 + (i - 32)) raw (both (inTable (size d) (32 + (i - 32))) _ t .1) in
         let place : raw - 32 ≡ i - 32 = omega arith in
-        let found : owned (d .config) (slotOf (d .slots) i) ≡ false = ap (λ (p : ℕ). owned (d .config) (getD (d .slots) p noSlot)) (sym place) ∙ unowned in
-        record { claim = refl; mark = refl; contents = λ own. absurd (true≢false (sym own ∙ found)) }
-    there i false e = alike-itself (d .config) (slotOf (d .slots) i)
+        alike-pulsed e (slotOf (d .slots) i) (ap (λ (p : ℕ). owned e (getD (d .slots) p noSlot)) (sym place) ∙ unowned)
+    there i false t = alike-itself e (slotOf (d .slots) i)
 
 -- K with 34, which nobody has claimed, enabled; and the same with a pulse on it
-abbrev Quiet : DistributorState
-Quiet = step (operate (SetEnabled true) 34) K
+abbrev Quiet : Distributor
+Quiet = step (change (Operate (SetEnabled true)) 34) K
 
-abbrev Pulsed : DistributorState
-Pulsed = step (operate Pulse 34) Quiet
+abbrev Pulsed : Distributor
+Pulsed = step (change (Operate Pulse) 34) Quiet
 
 abbrev turnsOn : Call
 turnsOn = write 0x0 Dword 2 (replicate 40 0)

@@ -4,22 +4,22 @@ use mathlib.Core.Path.{_≡_, refl}
 use mathlib.Core.Bool.{true}
 use mathlib.Core.List.{List, [], _∷_}
 use lib.ListN.{length, replicate}
-use Rattle.theory.specs.Places.{laid}
+use Rattle.theory.specs.Lists.{laid}
 use Rattle.theory.specs.Runs.{run}
 use Rattle.identifiers.specs.Answer.{done}
 use Rattle.identifiers.specs.declared.types.InterruptState.the-variants.{ActivePending}
-use Rattle.interrupt.specs.Life.{fresh, deliverableIn, enabledTo, pendingTo, activeTo, stateTo, triggerTo, routeTo, priorityTo, completed}
+use Rattle.interrupt.specs.Life.{deliverableIn, enabledTo, pendingTo, stateTo, routeTo, completed}
 use Rattle.operation.specs.declared.operation.Operation.the-variants.{SetEnabled, SetPending, SetState}
 use Rattle.registers.specs.declared.register.AccessWidth.the-variants.{Qword}
 use Rattle.registers.specs.Registers.{decode}
-use Rattle.distributor.specs.declared.distributor.DistributorState.{DistributorState}
-use Rattle.distributor.specs.Calls.{Call, write, claimSoftware, operate, reply, step}
+use Rattle.spi.specs.declared.change.Change.the-variants.{Claim, Operate}
+use Rattle.model.specs.Calls.{Distributor, Call, write, change, reply, step}
 use Rattle.examples.specs.Board.{K}
 use Rattle.examples.specs.OrderExamples.{writes}
 
 -- 33 is owned, enabled, pending and active
-abbrev Ready : DistributorState
-Ready = run step (operate (SetEnabled true) 33 ∷ operate (SetState ActivePending) 33 ∷ []) K
+abbrev Ready : Distributor
+Ready = run step (change (Operate (SetEnabled true)) 33 ∷ change (Operate (SetState ActivePending)) 33 ∷ []) K
 
 -- what a write lists of the 40 places that were lent
 abbrev lists : Call → List ℕ → Type 0
@@ -32,10 +32,10 @@ pub record Listings : Type 0 where
   pub others : lists (writes 0x84 2) [] × lists (writes 0x420 0) [] × lists (writes 0xc08 0) []
   pub route : lists (write 0x6108 Qword 1 (replicate 40 0)) (33 ∷ [])
   -- two in one write, the lowest first; 34 is ready too, and not the guest's
-  pub order : reply (writes 0x104 6) (run step (operate (SetEnabled true) 34 ∷ operate (SetPending true) 34 ∷ claimSoftware 34 ∷ []) Ready) ≡ record { answer = done (2 ∷ []); list = 33 ∷ 34 ∷ replicate 38 0 }
+  pub order : reply (writes 0x104 6) (run step (change (Operate (SetEnabled true)) 34 ∷ change (Operate (SetPending true)) 34 ∷ change Claim 34 ∷ []) Ready) ≡ record { answer = done (2 ∷ []); list = 33 ∷ 34 ∷ replicate 38 0 }
 
 pub listings : Listings
-unfolding reply step decode fresh deliverableIn enabledTo pendingTo activeTo stateTo triggerTo routeTo priorityTo completed
+unfolding reply step decode deliverableIn enabledTo pendingTo stateTo routeTo completed
 listings =
     record {
       enable = (refl, refl);

@@ -8,24 +8,26 @@ use native.Mathlib.Omega.{arith}
 use borrow.Author.Tests.{eqb-true}
 use lib.ListN.{getElem?, replicate}
 use Rattle.theory.specs.Bools.{both}
-use Rattle.theory.specs.Places.{tabulate, passing}
-use Rattle.theory.specs.PlaceLaws.{everywhere}
+use Rattle.theory.specs.Lists.{tabulate, passing}
+use Rattle.theory.specs.ListLaws.{everywhere}
 use Rattle.theory.specs.Elements.{at-tabulate}
 use Rattle.theory.specs.Runs.{run, answers, Share, Matching}
 use Rattle.theory.specs.Matchings.{swap, reversal}
 use Rattle.identifiers.specs.Answer.{done, refused, within}
-use Rattle.interrupt.specs.Life.{fresh, deliverableIn, enabledTo, routeTo}
-use Rattle.operation.specs.declared.operation.Operation.{Operation}
+use Rattle.interrupt.specs.Life.{fresh, enabledTo, routeTo}
 use Rattle.operation.specs.declared.operation.Operation.the-variants.{SetEnabled}
-use Rattle.distributor.specs.declared.distributor.DistributorState.{DistributorState}
+use Rattle.place.specs.Table.{inTable}
+use Rattle.place.specs.TableLaws.{in-range}
 use Rattle.registers.specs.declared.register.AccessWidth.the-variants.{Byte, Dword, Qword}
 use Rattle.registers.specs.Registers.{decode}
-use Rattle.bank.specs.Banks.{inTable}
-use Rattle.bank.specs.BankLaws.{in-range}
-use Rattle.distributor.specs.Calls.{Call, create, read, write, isEnabled, rollback, release, operate, ask, enabled, step, reply, plain, size}
+use Rattle.slot.specs.BankRule.{covers}
+use Rattle.spi.specs.declared.change.Change.{Change}
+use Rattle.spi.specs.declared.change.Change.the-variants.{Release, Operate}
+use Rattle.spi.specs.declared.question.Question.the-variants.{Enabled}
+use Rattle.model.specs.Calls.{Distributor, Call, create, read, write, isSwitchedOn, rollback, change, ask, step, reply, plain, size}
 use Rattle.order.specs.Names.{theSwitch, spi, names}
-use Rattle.examples.specs.Board.{K}
 use Rattle.order.specs.Order.{named, ordered}
+use Rattle.examples.specs.Board.{K}
 
 abbrev pub writes : ℕ → ℕ → Call
 writes offset v = write offset Dword v (replicate 40 0)
@@ -52,13 +54,13 @@ pub record NamedOnK : Type 0 where
   pub configuration : spis (writes 0xc0c 0) ≡ from 48 16
   pub route : (spis (read 0x6108 Qword) ≡ from 33 1) × (spis (write 0x6110 Qword 0 (replicate 40 0)) ≡ from 34 1)
   pub group-write : spis (writes 0x84 0xffffffff) ≡ []
-  pub host : (spis (release 34) ≡ from 34 1) × (spis (release 72) ≡ [])
+  pub host : (spis (change Release 34) ≡ from 34 1) × (spis (change Release 72) ≡ [])
   pub refused-3-4-5 : (spis (read 0x106 Dword) ≡ []) × (spis (read 0x104 Byte) ≡ []) × (spis (write 0x104 Dword 2 (replicate 39 0)) ≡ [])
   pub control : (spis (writes 0 2) ≡ from 32 40) × (spis (writes 0 1) ≡ []) × (spis (read 0 Dword) ≡ [])
-  pub switch : (named K (writes 0 2) theSwitch ≡ true) × (named K (writes 0 1) theSwitch ≡ true) × (named K (read 0 Dword) theSwitch ≡ true) × (named K isEnabled theSwitch ≡ true) × (named K (rollback true) theSwitch ≡ true)
+  pub switch : (named K (writes 0 2) theSwitch ≡ true) × (named K (writes 0 1) theSwitch ≡ true) × (named K (read 0 Dword) theSwitch ≡ true) × (named K isSwitchedOn theSwitch ≡ true) × (named K (rollback true) theSwitch ≡ true)
   pub no-switch : (named K (read 0x104 Dword) theSwitch ≡ false) × (named K (writes 0x104 2) theSwitch ≡ false) × (named K (read 0 Byte) theSwitch ≡ false)
   -- the rollback call and the question whether the switch is on name no SPI
-  pub switch-alone : (spis isEnabled ≡ []) × (spis (rollback true) ≡ [])
+  pub switch-alone : (spis isSwitchedOn ≡ []) × (spis (rollback true) ≡ [])
   -- registers with no INTID, an offset with no register, and the creation of another Distributor
   pub rest-reads : (namesOf (read 0xffe8 Dword) ≡ ([], false)) × (namesOf (read 0x4 Dword) ≡ ([], false)) × (namesOf (read 0x8 Dword) ≡ ([], false)) × (namesOf (read 0x800 Dword) ≡ ([], false))
   pub rest-writes : (namesOf (writes 0xffe8 2) ≡ ([], false)) × (namesOf (writes 0x4 2) ≡ ([], false)) × (namesOf (writes 0x8 2) ≡ ([], false)) × (namesOf (writes 0x800 2) ≡ ([], false))
@@ -87,30 +89,33 @@ named-on-K =
 
 -- ---- calls that may change places
 
--- an operation on each SPI from 32 on
-abbrev each : (ℕ → Operation) → ℕ → List Call
-each o n = tabulate (λ p. operate (o p) (32 + p)) 0 n
+-- a host's change of the SPI at the place p, and one of each SPI from 32 on
+abbrev nth : (ℕ → Change) → ℕ → Call
+nth h p = change (h p) (32 + p)
 
-each-apart : (d : DistributorState) (o o′ : Operation) (i j : ℕ) → i < j → ¬ Share (named d) (operate o (32 + i)) (operate o′ (32 + j))
+abbrev each : (ℕ → Change) → ℕ → List Call
+each h n = tabulate (nth h) 0 n
+
+each-apart : (d : Distributor) (h : ℕ → Change) (i j : ℕ) → i < j → ¬ Share (named d) (nth h i) (nth h j)
 unfolding names
-each-apart d o o′ i j h (theSwitch, p, q) = false≢true p
-each-apart d o o′ i j h (spi a, p, q) =
+each-apart d h i j l (theSwitch, p, q) = false≢true p
+each-apart d h i j l (spi a, p, q) =
     let u = eqb-true a (32 + i) (both (inTable (size d) a) _ p .1) in
     let v = eqb-true a (32 + j) (both (inTable (size d) a) _ q .1) in
     omega arith
 
--- operations on different SPIs may be done the last first: the whole list backward
-pub backward : (d : DistributorState) (o : ℕ → Operation) (n : ℕ) → Matching (named d) (each o n) (reverse (each o n))
-backward d o n =
-    reversal (named d) (each o n)
-    (λ i j k l p q h.
-    let u : operate (o i) (32 + i) ≡ k = ap (λ (a : ℕ). operate (o a) (32 + a)) (omega arith) ∙ at-tabulate (λ p. operate (o p) (32 + p)) 0 n i k p in
-    let v : operate (o j) (32 + j) ≡ l = ap (λ (a : ℕ). operate (o a) (32 + a)) (omega arith) ∙ at-tabulate (λ p. operate (o p) (32 + p)) 0 n j l q in
-    rw (← u, ← v) (each-apart d (o i) (o j) i j h))
+-- changes of different SPIs may be done the last first: the whole list backward
+pub backward : (d : Distributor) (h : ℕ → Change) (n : ℕ) → Matching (named d) (each h n) (reverse (each h n))
+backward d h n =
+    reversal (named d) (each h n)
+    (λ i j k l p q below.
+    let u : nth h i ≡ k = ap (nth h) (omega arith) ∙ at-tabulate (nth h) 0 n i k p in
+    let v : nth h j ≡ l = ap (nth h) (omega arith) ∙ at-tabulate (nth h) 0 n j l q in
+    rw (← u, ← v) (each-apart d h i j below))
 
 -- so both orders end in one state
-pub backward-same : (d : DistributorState) (o : ℕ → Operation) (n : ℕ) → run step (each o n) d ≡ run step (reverse (each o n)) d
-backward-same d o n = ordered d .reordering (each o n) (reverse (each o n)) (backward d o n) .0
+pub backward-same : (d : Distributor) (h : ℕ → Change) (n : ℕ) → run step (each h n) d ≡ run step (reverse (each h n)) d
+backward-same d h n = ordered d .reordering (each h n) (reverse (each h n)) (backward d h n) .0
 
 -- an SPI that the two writes below would share
 abbrev bothName : ℕ → Bool
@@ -120,13 +125,13 @@ bits-apart : ¬ Share (named K) (writes 0x104 2) (writes 0x104 4)
 unfolding names step decode
 bits-apart (theSwitch, p, q) = false≢true p
 bits-apart (spi i, p, q) =
-    let (low, high) = in-range 32 i (both (within 32 64 i) _ (both (within 32 64 i && inTable 40 i) _ p .0) .0) in
+    let (low, high) = in-range 32 i (both (within 32 64 i) _ (both (covers 40 32 32 i) _ p .0) .0) in
     let none : bothName (32 + (i - 32)) ≡ false = everywhere (λ k. bothName (32 + k)) (λ k. false) 32 refl (i - 32) (omega arith) in
     let z : 32 + (i - 32) ≡ i = omega arith in
-    true≢false (sym (joined p q) ∙ ap bothName (sym z) ∙ none)
+    true≢false (sym (both-true p q) ∙ ap bothName (sym z) ∙ none)
   where
-    joined : {a b : Bool} → a ≡ true → b ≡ true → (a && b) ≡ true
-    joined p q = rw (p, q)
+    both-true : {a b : Bool} → a ≡ true → b ≡ true → (a && b) ≡ true
+    both-true p q = rw (p, q)
 
 -- two writes to one register of flags, each with a bit of its own, may be swapped: 33 and 34 enabled, then any calls
 pub swapped : (calls : List Call) → Matching (named K) (writes 0x104 2 ∷ writes 0x104 4 ∷ calls) (writes 0x104 4 ∷ writes 0x104 2 ∷ calls)
@@ -135,29 +140,29 @@ swapped calls = swap (named K) (writes 0x104 2) (writes 0x104 4) calls bits-apar
 -- ---- calls that may not
 
 abbrev enable : Call
-enable = operate (SetEnabled true) 33
+enable = change (Operate (SetEnabled true)) 33
 
-abbrev asks : Call
-asks = ask enabled 33
+abbrev question : Call
+question = ask Enabled 33
 
 -- two calls on one SPI: their order changes an answer, and they have no matching
-pub order-matters : (answers step reply (enable ∷ asks ∷ []) K ≡ plain (done []) ∷ plain (done (1 ∷ [])) ∷ [])
-    × (answers step reply (asks ∷ enable ∷ []) K ≡ plain (done (0 ∷ [])) ∷ plain (done []) ∷ [])
+pub order-matters : (answers step reply (enable ∷ question ∷ []) K ≡ plain (done []) ∷ plain (done (1 ∷ [])) ∷ [])
+    × (answers step reply (question ∷ enable ∷ []) K ≡ plain (done (0 ∷ [])) ∷ plain (done []) ∷ [])
 unfolding step reply fresh enabledTo
 order-matters = (refl, refl)
 
-pub unmatched : ¬ Matching (named K) (enable ∷ asks ∷ []) (asks ∷ enable ∷ [])
+pub unmatched : ¬ Matching (named K) (enable ∷ question ∷ []) (question ∷ enable ∷ [])
 unfolding names step
 unmatched m =
-    let first : m .to 0 < m .to 1 = m .kept 0 1 enable asks refl refl (spi 33, refl, refl) (omega arith) in
+    let first : m .to 0 < m .to 1 = m .kept 0 1 enable question refl refl (spi 33, refl, refl) (omega arith) in
     let inside = m .to-in 1 (omega arith) in
     let z : m .to 0 ≡ 0 = omega arith in
-    let same : getElem? (asks ∷ enable ∷ []) 0 ≡ some enable = ap (getElem? (asks ∷ enable ∷ [])) (sym z) ∙ m .same 0 (omega arith) in
+    let same : getElem? (question ∷ enable ∷ []) 0 ≡ some enable = ap (getElem? (question ∷ enable ∷ [])) (sym z) ∙ m .same 0 (omega arith) in
     let no : _≡_ {A = ℕ} 0 1 = cc in
     omega arith
 
 -- a write that is refused 1 counts: before it 64 and 65 read as disabled, after it as enabled
 pub refused-matters : (answers step reply (read 0x108 Dword ∷ writes 0x108 0x1ff ∷ read 0x108 Dword ∷ []) K
     ≡ plain (done (0 ∷ [])) ∷ record { answer = refused 1 (72 ∷ []); list = replicate 40 0 } ∷ plain (done (3 ∷ [])) ∷ [])
-unfolding step reply decode fresh deliverableIn enabledTo routeTo
+unfolding step reply decode fresh enabledTo routeTo
 refused-matters = refl

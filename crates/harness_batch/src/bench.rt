@@ -27,7 +27,7 @@ fn accesses(first: DistributorState, calls: &[u8], list: &mut [u32; PLACES]) -> 
         let call = call_at(calls, from);
         let width = guest::width(call.b);
         if call.op == 0x11 {
-            sum = add(sum, guest::seen(d.read(call.a, width)));
+            sum = add(sum, guest::read(d.read(call.a, width)));
         } else {
             let wrote = d.write(call.a, width, call.c, list);
             d = wrote.state;

@@ -18,6 +18,8 @@ use harness_calls::number::bit;
 use harness_calls::number::wide_word;
 use harness_calls::packed;
 use harness_calls::run;
+use place::place::SPIS;
+use slot::slot::Slot;
 
 // The most places that a write is lent.
 pub const PLACES: usize = 996;
@@ -73,11 +75,11 @@ fn put_seen(
     let mut next = put_byte(answer.kind, seen, at);
     next = put_eight(answer.payload, seen, next);
     next = put_four(answer.count as u64, seen, next);
-    next = put_byte(bit(d.enabled()), seen, next);
+    next = put_byte(bit(d.is_switched_on()), seen, next);
     next = put_four(places, seen, next);
     next = put_list(list, places, seen, next);
     next = put_four(n, seen, next);
-    put_slots(d, n, seen, next)
+    put_slots(d.slots(), n, seen, next)
 }
 
 // Only a write is lent a list.
@@ -101,11 +103,11 @@ fn put_list(list: &[u32; PLACES], places: u64, seen: &mut [u8], at: usize) -> us
     next
 }
 
-fn put_slots(d: DistributorState, n: u64, seen: &mut [u8], at: usize) -> usize {
+fn put_slots(table: [Slot; SPIS], n: u64, seen: &mut [u8], at: usize) -> usize {
     let mut next = at;
     let mut i = 0;
-    while i < 988 && (i as u64) < n {
-        let s = d.slots[i];
+    while i < SPIS && (i as u64) < n {
+        let s = table[i];
         next = put_eight(packed::pack(s), seen, next);
         i += 1;
     }

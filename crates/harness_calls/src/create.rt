@@ -7,8 +7,8 @@ use crate::number::low_word;
 use crate::run::Ran;
 use distributor::create::CreateAnswer;
 use distributor::distributor::DistributorState;
-use registers::controller::ControllerConfig;
-use registers::controller::GicV3SpiOwnership;
+use controller::controller::ControllerConfig;
+use controller::controller::GicV3SpiOwnership;
 
 // Before any creation there is a Distributor with no SPIs, as after one that is refused.
 pub fn nothing() -> DistributorState {
@@ -28,7 +28,7 @@ pub fn create(call: Call) -> Ran {
 
 fn made(answer: CreateAnswer) -> Answer {
     match answer {
-        CreateAnswer::Made => answer::done(0),
+        CreateAnswer::Done => answer::done(0),
         CreateAnswer::Refused(refusal) => answer::refused(refusal),
     }
 }

@@ -40,35 +40,35 @@ pub fn run(call: Call) -> Answer {
 
 fn sgi(raw: u8) -> Answer {
     match SgiId::new(raw) {
-        SgiIdAnswer::Made(id) => done(wide(id.raw())),
+        SgiIdAnswer::Done(id) => done(wide(id.raw())),
         SgiIdAnswer::Refused(refusal) => refused(refusal),
     }
 }
 
 fn ppi(raw: u8) -> Answer {
     match PpiId::new(raw) {
-        PpiIdAnswer::Made(id) => done(wide(id.raw())),
+        PpiIdAnswer::Done(id) => done(wide(id.raw())),
         PpiIdAnswer::Refused(refusal) => refused(refusal),
     }
 }
 
 fn spi(raw: u32) -> Answer {
     match SpiId::new(raw) {
-        SpiIdAnswer::Made(id) => done(wide_word(id.raw())),
+        SpiIdAnswer::Done(id) => done(wide_word(id.raw())),
         SpiIdAnswer::Refused(refusal) => refused(refusal),
     }
 }
 
 fn lpi(raw: u32) -> Answer {
     match LpiId::new(raw) {
-        LpiIdAnswer::Made(id) => done(wide_word(id.raw())),
+        LpiIdAnswer::Done(id) => done(wide_word(id.raw())),
         LpiIdAnswer::Refused(refusal) => refused(refusal),
     }
 }
 
 fn intid(raw: u32) -> Answer {
     match IntId::new(raw) {
-        IntIdAnswer::Made(id) => done(kind(id) << 32 | wide_word(id.raw())),
+        IntIdAnswer::Done(id) => done(kind(id) << 32 | wide_word(id.raw())),
         IntIdAnswer::Refused(refusal) => refused(refusal),
     }
 }
@@ -84,7 +84,7 @@ fn kind(id: IntId) -> u64 {
 
 fn record(raw: u32, mode: u64) -> Answer {
     match IntId::new(raw) {
-        IntIdAnswer::Made(id) => done(packed::record(InterruptRecord::new(id, trigger(mode)))),
+        IntIdAnswer::Done(id) => done(packed::record(InterruptRecord::new(id, trigger(mode)))),
         IntIdAnswer::Refused(refusal) => refused(refusal),
     }
 }

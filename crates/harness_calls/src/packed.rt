@@ -23,8 +23,9 @@ const MASKED: u64 = 0x400;
 pub const FRESH: u64 = 0x80_0000;
 
 pub fn pack(slot: Slot) -> u64 {
-    let interrupt = slot.interrupt;
-    record(interrupt) | mark(slot.explicitly_owned, CLAIMED) | mark(slot.fixed_route, FIXED)
+    record(slot.interrupt())
+        | mark(slot.is_claimed(), CLAIMED)
+        | mark(slot.has_fixed_route(), FIXED)
 }
 
 fn mark(on: bool, weight: u64) -> u64 {

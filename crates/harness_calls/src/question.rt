@@ -6,86 +6,44 @@ use crate::number::of_state;
 use crate::number::of_trigger;
 use crate::number::wide;
 use crate::number::wide_word;
-use distributor::distributor::DistributorState;
-use distributor::questions::Flag;
-use distributor::questions::MaskOf;
-use distributor::questions::PriorityOf;
-use distributor::questions::RouteOf;
-use distributor::questions::SpiNumber;
-use distributor::questions::State;
-use distributor::questions::TriggerOf;
-use identifiers::types::SpiId;
 use interrupt::interrupt::Route;
+use spi::question::Question;
+use spi::question::QuestionAnswer;
+use spi::question::Value;
 
-pub fn ask(d: DistributorState, spi: SpiId, op: u64) -> Answer {
+pub fn question_of(op: u64) -> Question {
     match op {
-        0x19 => mask(d.cpu_target_mask(spi)),
-        0x20 => number(d.intid(spi)),
-        0x27 => life(d.state(spi)),
-        0x30 => priority(d.priority(spi)),
-        0x32 => mode(d.trigger(spi)),
-        0x34 => route(d.route(spi)),
-        _ => flag(ask_flag(d, spi, op)),
-    }
-}
-
-fn ask_flag(d: DistributorState, spi: SpiId, op: u64) -> Flag {
-    match op {
-        0x21 => d.spi_enabled(spi),
-        0x23 => d.pending(spi),
-        0x25 => d.active(spi),
-        0x29 => d.has_delivery_state(spi),
+        0x19 => Question::CpuTargetMask,
+        0x20 => Question::Intid,
+        0x21 => Question::Enabled,
+        0x23 => Question::Pending,
+        0x25 => Question::Active,
+        0x27 => Question::State,
+        0x29 => Question::HasDeliveryState,
+        0x30 => Question::Priority,
+        0x32 => Question::Trigger,
+        0x34 => Question::Route,
         // 0x3a
-        _ => d.deliverable(spi),
+        _ => Question::Deliverable,
     }
 }
 
-fn flag(answer: Flag) -> Answer {
+pub fn seen(answer: QuestionAnswer) -> Answer {
     match answer {
-        Flag::Is(on) => answer::done(bit(on)),
-        Flag::Refused(refusal) => answer::refused(refusal),
+        QuestionAnswer::Done(value) => answer::done(number_of(value)),
+        QuestionAnswer::Refused(refusal) => answer::refused(refusal),
     }
 }
 
-fn number(answer: SpiNumber) -> Answer {
-    match answer {
-        SpiNumber::Is(intid) => answer::done(wide_word(intid)),
-        SpiNumber::Refused(refusal) => answer::refused(refusal),
-    }
-}
-
-fn life(answer: State) -> Answer {
-    match answer {
-        State::Is(state) => answer::done(of_state(state)),
-        State::Refused(refusal) => answer::refused(refusal),
-    }
-}
-
-fn priority(answer: PriorityOf) -> Answer {
-    match answer {
-        PriorityOf::Is(priority) => answer::done(wide(priority.raw())),
-        PriorityOf::Refused(refusal) => answer::refused(refusal),
-    }
-}
-
-fn mode(answer: TriggerOf) -> Answer {
-    match answer {
-        TriggerOf::Is(trigger) => answer::done(of_trigger(trigger)),
-        TriggerOf::Refused(refusal) => answer::refused(refusal),
-    }
-}
-
-fn mask(answer: MaskOf) -> Answer {
-    match answer {
-        MaskOf::Is(cores) => answer::done(wide(cores)),
-        MaskOf::Refused(refusal) => answer::refused(refusal),
-    }
-}
-
-fn route(answer: RouteOf) -> Answer {
-    match answer {
-        RouteOf::Is(route) => answer::done(route_number(route)),
-        RouteOf::Refused(refusal) => answer::refused(refusal),
+fn number_of(value: Value) -> u64 {
+    match value {
+        Value::Intid(intid) => wide_word(intid),
+        Value::Flag(on) => bit(on),
+        Value::State(state) => of_state(state),
+        Value::Priority(priority) => wide(priority.raw()),
+        Value::Trigger(trigger) => of_trigger(trigger),
+        Value::Route(route) => route_number(route),
+        Value::Mask(cores) => wide(cores),
     }
 }
 

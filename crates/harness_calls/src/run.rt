@@ -27,20 +27,19 @@ pub fn run(d: DistributorState, call: Call, room: &mut [u32]) -> Ran {
     match call::family_of(call.op) {
         Family::Identifier => kept(d, identifier::run(call)),
         Family::Creation => create::create(call),
-        Family::Read => kept(d, guest::read(d, call)),
-        Family::Write => guest::write(d, call, room),
-        Family::Switch => kept(d, answer::done(bit(d.enabled()))),
-        Family::Rollback => Ran {
-            state: d.set_enabled_for_rollback(has(call.a, 1)),
-            answer: answer::done(0),
-        },
+        Family::Read => kept(d, guest::read(d.read(call.a, guest::width(call.b)))),
+        Family::Write => write(d, call, room),
+        Family::Switch => kept(d, answer::done(bit(d.is_switched_on()))),
+        Family::Rollback => kept(
+            d.set_enabled_for_rollback(has(call.a, 1)),
+            answer::done(0),
+        ),
         Family::Change => change_spi(d, call),
         Family::Question => kept(d, ask_spi(d, call)),
         Family::Unknown => kept(d, answer::unknown()),
     }
 }
 
-// A call that changes nothing.
 fn kept(d: DistributorState, answer: Answer) -> Ran {
     Ran {
         state: d,
@@ -48,17 +47,30 @@ fn kept(d: DistributorState, answer: Answer) -> Ran {
     }
 }
 
+fn write(d: DistributorState, call: Call, room: &mut [u32]) -> Ran {
+    let places = guest::lent(call.d, room.len());
+    let wrote = d.write(call.a, guest::width(call.b), call.c, &mut room[..places]);
+    let state = wrote.state;
+    let answer = wrote.answer;
+    kept(state, guest::written(answer))
+}
+
 // A number that is no SPI's is refused before the Distributor is asked, since its calls take an `SpiId`.
 fn change_spi(d: DistributorState, call: Call) -> Ran {
     match SpiId::new(low_word(call.a)) {
-        SpiIdAnswer::Made(spi) => change::change(d, spi, call.op, call.b),
+        SpiIdAnswer::Done(spi) => {
+            let changed = d.change(spi, change::change_of(call.op, call.b));
+            let state = changed.state;
+            let answer = changed.answer;
+            kept(state, change::seen(answer))
+        }
         SpiIdAnswer::Refused(refusal) => kept(d, answer::refused(refusal)),
     }
 }
 
 fn ask_spi(d: DistributorState, call: Call) -> Answer {
     match SpiId::new(low_word(call.a)) {
-        SpiIdAnswer::Made(spi) => question::ask(d, spi, call.op),
+        SpiIdAnswer::Done(spi) => question::seen(d.ask(spi, question::question_of(call.op))),
         SpiIdAnswer::Refused(refusal) => answer::refused(refusal),
     }
 }

@@ -1,4 +1,5 @@
-// What the arguments of a call may be (docs/ORACLE.md, "The calls").
+// What the arguments of a call may be (docs/ORACLE.md, "The calls"), and how many candidates it may list.
+use crate::line::Seen;
 use harness_calls::call;
 use harness_calls::call::Call;
 use harness_calls::call::Family;
@@ -10,9 +11,9 @@ const WORD: u64 = 0xffff_ffff;
 // The most places that a write is lent: 8 more than a table can have.
 pub const PLACES: usize = 996;
 
-// Whether there is such a call, and each argument is one that it can have. `made` says whether there is a Distributor, which
-// only the identifiers and a creation do without.
-pub fn proper(call: Call, made: bool) -> bool {
+// Whether there is such a call, each argument is one that it can have, and it lists no more candidates than it can. `made` says
+// whether there is a Distributor, of `spis` SPIs; only the identifiers and a creation do without.
+pub fn proper(call: Call, seen: Seen, made: bool, spis: u64) -> bool {
     let op = call.op;
     let alone = op <= 0x10;
     (made | alone)
@@ -20,8 +21,20 @@ pub fn proper(call: Call, made: bool) -> bool {
         & (call.a <= largest_a(op))
         & (call.b <= largest_b(op))
         & (call.c <= largest_c(op))
-        & (call.d <= largest_d(op))
+        & (call.d <= largest_d(op, spis))
         & ((op != 0x11) & (op != 0x12) | is_width(call.b))
+        & (seen.candidates <= most_candidates(call, seen.kind, spis))
+}
+
+// Only a write that is done lists candidates, and each of them is an SPI and takes a place of the lent list.
+fn most_candidates(call: Call, kind: u64, spis: u64) -> u64 {
+    if (call.op != 0x12) | (kind != 0) {
+        0
+    } else if call.d < spis {
+        call.d
+    } else {
+        spis
+    }
 }
 
 fn known(op: u64) -> bool {
@@ -78,12 +91,12 @@ fn largest_c(op: u64) -> u64 {
     }
 }
 
-fn largest_d(op: u64) -> u64 {
+fn largest_d(op: u64, spis: u64) -> u64 {
     match op {
         // The LPI limit.
         0x10 => WORD,
-        // Places.
-        0x12 => PLACES as u64,
+        // Places: 8 more than there are SPIs.
+        0x12 => std::num::wrapping_add_u64(spis, 8),
         // None.
         _ => 0,
     }

@@ -4,18 +4,17 @@ use crate::line;
 use crate::line::CANDIDATES;
 use crate::line::Seen;
 use crate::line::WORDS;
-use crate::table::SPIS;
-use distributor::distributor::DistributorState;
 use harness_calls::answer::Answer;
 use harness_calls::number::bit;
 use harness_calls::number::wide_word;
 use harness_calls::packed;
+use slot::slot::Slot;
+use place::place::SPIS;
 
 // What stands in each place of the list when it is lent. It is no INTID.
 pub const UNTOUCHED: u32 = 0xffff_ffff;
 
 pub enum What {
-    Nothing,
     Kind,
     Payload,
     Count,
@@ -25,7 +24,7 @@ pub enum What {
     Slot,
 }
 
-// The first thing that differs, where it stands, and what the line and the call have there.
+// What the line and the call have of a thing, and where it stands. There is no difference where they have the same.
 pub struct Difference {
     pub what: What,
     pub at: usize,
@@ -35,95 +34,77 @@ pub struct Difference {
 
 impl Difference {
     pub fn is_nothing(self) -> bool {
-        let what = self.what;
-        match what {
-            What::Nothing => true,
-            _ => false,
-        }
+        self.listed == self.here
+    }
+
+    // The first of two that is something.
+    pub fn or(self, second: Difference) -> Difference {
+        if self.is_nothing() { second } else { self }
     }
 }
 
-fn held(what: What, at: usize, listed: u64, here: u64) -> Difference {
+fn difference_at(what: What, at: usize, listed: u64, here: u64) -> Difference {
     Difference {
-        what: if listed == here { What::Nothing } else { what },
+        what: what,
         at: at,
         listed: listed,
         here: here,
     }
 }
 
-fn same() -> Difference {
-    held(What::Nothing, 0, 0, 0)
-}
-
-pub fn compare(
-    d: DistributorState,
-    seen: Seen,
-    answer: Answer,
-    list: &[u32; PLACES],
+pub fn answer_and_list(
     words: &[u64; WORDS],
-    slots: &[u64; SPIS],
+    answer: Answer,
+    switch: bool,
+    list: &[u32; PLACES],
 ) -> Difference {
-    let first = compare_answer(seen, answer, bit(d.enabled()));
-    if !first.is_nothing() {
-        return first;
-    }
-    let second = compare_list(answer.count, list, words);
-    if !second.is_nothing() {
-        return second;
-    }
-    compare_slots(d, slots)
+    let first = compare_answer(line::seen_of(words), answer, bit(switch));
+    first.or(compare_list(answer.count, list, words))
 }
 
 fn compare_answer(seen: Seen, answer: Answer, switch: u64) -> Difference {
-    let count = answer.count as u64;
-    if seen.kind != answer.kind {
-        held(What::Kind, 0, seen.kind, answer.kind)
-    } else if seen.payload != answer.payload {
-        held(What::Payload, 0, seen.payload, answer.payload)
-    } else if seen.candidates != count {
-        held(What::Count, 0, seen.candidates, count)
-    } else {
-        held(What::Switch, 0, seen.switch, switch)
-    }
+    let kind = difference_at(What::Kind, 0, seen.kind, answer.kind);
+    let payload = difference_at(What::Payload, 0, seen.payload, answer.payload);
+    let count = difference_at(What::Count, 0, seen.candidates, answer.count as u64);
+    let switch = difference_at(What::Switch, 0, seen.switch, switch);
+    kind.or(payload).or(count).or(switch)
 }
 
 // The first places hold the line's candidates, and the others are untouched.
 fn compare_list(count: usize, list: &[u32; PLACES], words: &[u64; WORDS]) -> Difference {
     let mut i = 0;
     while i < PLACES {
-        let place = held(
-            What::Place,
-            i,
-            expected(words, count, i),
-            wide_word(list[i]),
-        );
-        if !place.is_nothing() {
-            return place;
+        let listed = expected(words, count, i);
+        let here = wide_word(list[i]);
+        if listed != here {
+            return difference_at(What::Place, i, listed, here);
         }
         i += 1;
     }
-    same()
+    // No difference.
+    difference_at(What::Place, 0, 0, 0)
 }
 
 fn expected(words: &[u64; WORDS], count: usize, i: usize) -> u64 {
     if i < count {
-        line::word(words, WORDS, std::num::wrapping_add_usize(CANDIDATES, i))
+        line::word(words, std::num::wrapping_add_usize(CANDIDATES, i))
     } else {
         UNTOUCHED as u64
     }
 }
 
 // Every slot of the table, those past the last SPI too: they stay fresh.
-fn compare_slots(d: DistributorState, slots: &[u64; SPIS]) -> Difference {
+pub fn slots(table: [Slot; SPIS], slots: &[u64; SPIS]) -> Difference {
     let mut i = 0;
     while i < SPIS {
-        let s = d.slots[i];
-        let place = held(What::Slot, i, slots[i], packed::pack(s));
-        if !place.is_nothing() {
-            return place;
+        let slot = table[i];
+        let listed = slots[i];
+        let here = packed::pack(slot);
+        if listed != here {
+            return difference_at(What::Slot, i, listed, here);
         }
         i += 1;
     }
-    same()
+    // No difference.
+    difference_at(What::Slot, 0, 0, 0)
 }

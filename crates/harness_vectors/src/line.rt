@@ -1,6 +1,5 @@
-// A line of a list, taken apart: the call, and what was seen of it.
+// A line of a list, as words: the call, and what was seen of it.
 use harness_calls::call::Call;
-ghost use Prim.Native.Nat.{_≤_};
 
 // The most words of a line: ten, a candidate for each of 988 SPIs, and a place and a slot for each, fit.
 pub const WORDS: usize = 4096;
@@ -16,57 +15,18 @@ pub struct Seen {
     pub switch: u64,
 }
 
-pub struct Line {
-    pub call: Call,
-    pub seen: Seen,
-    // The words from which and up to which the changed slots stand.
-    pub first: usize,
-    pub end: usize,
+// The word at a place, 0 where there is no such place.
+pub fn word(words: &[u64; WORDS], at: usize) -> u64 {
+    if at < WORDS { words[at] } else { 0 }
 }
 
-pub enum Parsed {
-    Whole(Line),
-    Bad,
+// Where the word stands that is so many past the candidates: 0 the switch, 1 how many slots changed, 2 the first of these.
+pub fn past_candidates(words: &[u64; WORDS], more: usize) -> usize {
+    let first = std::num::wrapping_add_usize(CANDIDATES, words[7] as usize);
+    std::num::wrapping_add_usize(first, more)
 }
 
-// The word at a place, 0 past the line's end.
-pub fn word(words: &[u64; WORDS], count: usize, at: usize) -> u64 {
-    if at < WORDS && at < count {
-        words[at]
-    } else {
-        0
-    }
-}
-
-// A line has ten words, one more for a candidate, and two more for a changed slot.
-pub fn parse(words: &[u64; WORDS], count: usize) -> Parsed {
-    let candidates = words[7];
-    if WORDS < count {
-        return Parsed::Bad;
-    }
-    let length = count as u64;
-    if length < 10 {
-        return Parsed::Bad;
-    }
-    if length - 10 < candidates {
-        return Parsed::Bad;
-    }
-    let first = candidates as usize + 10;
-    let changes = word(words, count, first - 1);
-    let seen = seen_of(words, word(words, count, first - 2));
-    let pairs = length - 10 - candidates;
-    if (changes != pairs / 2) | (pairs % 2 != 0) | (1 < seen.switch) {
-        return Parsed::Bad;
-    }
-    Parsed::Whole(Line {
-        call: call_of(words),
-        seen: seen,
-        first: first,
-        end: count,
-    })
-}
-
-fn call_of(words: &[u64; WORDS]) -> Call {
+pub fn call_of(words: &[u64; WORDS]) -> Call {
     Call {
         op: words[0],
         a: words[1],
@@ -76,11 +36,27 @@ fn call_of(words: &[u64; WORDS]) -> Call {
     }
 }
 
-fn seen_of(words: &[u64; WORDS], switch: u64) -> Seen {
+pub fn seen_of(words: &[u64; WORDS]) -> Seen {
     Seen {
         kind: words[5],
         payload: words[6],
         candidates: words[7],
-        switch: switch,
+        switch: word(words, past_candidates(words, 0)),
     }
+}
+
+// Whether so many words are a line: ten, one more for a candidate, and two more for a changed slot.
+pub fn is_whole(words: &[u64; WORDS], count: usize) -> bool {
+    let length = count as u64;
+    let candidates = words[7];
+    if length < 10 {
+        return false;
+    }
+    if length - 10 < candidates {
+        return false;
+    }
+    let rest = length - 10 - candidates;
+    let changes = word(words, past_candidates(words, 1));
+    let switch = word(words, past_candidates(words, 0));
+    (changes == rest / 2) & (rest % 2 == 0) & (switch <= 1)
 }

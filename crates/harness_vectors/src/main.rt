@@ -8,67 +8,39 @@ mod report;
 mod run;
 mod table;
 
+use crate::arguments::PLACES;
+use crate::compare::UNTOUCHED;
+use crate::lexer::BUFFER;
 use crate::line::WORDS;
 use crate::run::Run;
-use crate::run::Step;
-use crate::table::SPIS;
-use libc::STDIN_FILENO;
+use harness_calls::create;
+use harness_calls::packed::FRESH;
+use place::place::SPIS;
 
 fn main() {
+    let mut buffer = io::large_buffer();
     let mut words = [0u64; WORDS];
-    let mut slots = [0u64; SPIS];
-    let last = replay_all(Step::first(), &mut words, &mut slots);
-    let run = last.run;
-    if run.sound {
-        report::summary(run.identifiers, run.creations, run.guest, run.host);
-    }
+    let mut slots = [FRESH; SPIS];
+    replay(&mut buffer, &mut words, &mut slots);
 }
 
+// Runs the calls, line by line. A function that has the Distributor in hand takes the prover long, so only this loop hands it on.
+//
 // A proved loop has to end, and nothing says that the input does. So the loop counts its turns down, from a number that no
 // run uses up.
-fn replay_all(first: Step, words: &mut [u64; WORDS], slots: &mut [u64; SPIS]) -> Step {
-    let mut step = first;
-    let mut reading = true;
+fn replay(buffer: &mut [u8; BUFFER], words: &mut [u64; WORDS], slots: &mut [u64; SPIS]) {
+    let mut run = Run::new();
+    let mut d = create::nothing();
     let mut turns = u64::MAX;
-    while turns > 0 && reading {
-        step = replay_some(step, words, slots);
-        reading = step.reading();
+    while turns > 0 && run.reading {
+        run = run.read_on(buffer, words, slots);
+        if run.called {
+            let mut list = [UNTOUCHED; PLACES];
+            let ran = harness_calls::run::run(d, line::call_of(words), &mut list);
+            d = ran.state;
+            let answer = compare::answer_and_list(words, ran.answer, d.is_switched_on(), &list);
+            run = run.compared(answer, compare::slots(d.slots(), slots));
+        }
         turns -= 1;
     }
-    step
-}
-
-fn replay_some(step: Step, words: &mut [u64; WORDS], slots: &mut [u64; SPIS]) -> Step {
-    let mut buffer = io::large_buffer();
-    let got = libc::read(STDIN_FILENO, &mut buffer);
-    if got < 0 {
-        return step.unread();
-    }
-    if got == 0 {
-        return step.end();
-    }
-    let n = io::count(got, &buffer);
-    replay_bytes(step, &buffer[..n], words, slots)
-}
-
-// The Distributor goes by value, so it is handed on by the line and not by the byte.
-fn replay_bytes(
-    first: Step,
-    bytes: &[u8],
-    words: &mut [u64; WORDS],
-    slots: &mut [u64; SPIS],
-) -> Step {
-    let mut run = first.run;
-    let mut d = first.state;
-    let mut i = 0;
-    while i < bytes.len() && run.reading {
-        run = run.byte(bytes[i], words);
-        if run.whole {
-            let step = run.line(d, words, slots);
-            run = step.run;
-            d = step.state;
-        }
-        i += 1;
-    }
-    Step { run: run, state: d }
 }

@@ -18,6 +18,10 @@ pub fn bad(line: u64) {
     text(b"\n");
 }
 
+pub fn no_call() {
+    text(b"no call: this is no list\n");
+}
+
 pub fn unread() {
     text(b"the list cannot be read\n");
 }
@@ -36,7 +40,6 @@ pub fn difference(line: u64, difference: Difference) {
 
 fn name(what: What, at: u64) {
     match what {
-        What::Nothing => text(b"nothing"),
         What::Kind => text(b"kind"),
         What::Payload => text(b"payload"),
         What::Count => text(b"number of candidates"),

@@ -1,85 +1,43 @@
-// A list replayed, line by line, and how many calls were compared.
+// A list, read line by line: where the reading stands, and how many calls were compared.
 //
-// The Distributor runs every call. The slots that the lines list are gathered beside it, and after each call the whole of it is held
-// against them.
+// The slots that the lines list are gathered, so that after each call the whole Distributor can be held against them.
 use crate::arguments;
-use crate::arguments::PLACES;
-use crate::compare;
-use crate::compare::UNTOUCHED;
-use crate::lexer::Lexed;
+use crate::compare::Difference;
+use crate::lexer::BUFFER;
 use crate::lexer::Lexer;
 use crate::line;
-use crate::line::Line;
-use crate::line::Parsed;
 use crate::line::WORDS;
 use crate::report;
 use crate::table;
-use crate::table::SPIS;
-use distributor::distributor::DistributorState;
-use harness_calls::create;
 use harness_calls::packed::FRESH;
-use harness_calls::run;
+use libc::STDIN_FILENO;
+use place::place::SPIS;
 
 pub struct Run {
     // There may be more to read, and nothing is wrong so far.
     pub reading: bool,
-    pub sound: bool,
+    // A line is whole, and its call is to be run.
+    pub called: bool,
     lexer: Lexer,
-    // A line is whole, and has this many words.
-    pub whole: bool,
-    words: usize,
     lines: u64,
-    // Whether the list has a Distributor.
+    // Whether the list has a Distributor, and of how many SPIs: 0 where it has none.
     made: bool,
-    pub identifiers: u64,
-    pub creations: u64,
-    pub guest: u64,
-    pub host: u64,
-}
-
-// Where a replay stands, and the Distributor.
-pub struct Step {
-    pub run: Run,
-    pub state: DistributorState,
-}
-
-impl Step {
-    pub fn first() -> Step {
-        Step {
-            run: Run::new(),
-            state: create::nothing(),
-        }
-    }
-
-    pub fn reading(self) -> bool {
-        let run = self.run;
-        run.reading
-    }
-
-    pub fn end(self) -> Step {
-        let run = self.run;
-        let state = self.state;
-        run.end().with(state)
-    }
-
-    pub fn unread(self) -> Step {
-        report::unread();
-        let run = self.run;
-        let state = self.state;
-        run.stopped().with(state)
-    }
+    spis: u64,
+    identifiers: u64,
+    creations: u64,
+    guest: u64,
+    host: u64,
 }
 
 impl Run {
-    fn new() -> Run {
+    pub fn new() -> Run {
         Run {
             reading: true,
-            sound: true,
-            lexer: Lexer::new(),
-            whole: false,
-            words: 0,
+            called: false,
+            lexer: Lexer::new(0, 0),
             lines: 0,
             made: false,
+            spis: 0,
             identifiers: 0,
             creations: 0,
             guest: 0,
@@ -87,39 +45,61 @@ impl Run {
         }
     }
 
-    fn with(self, state: DistributorState) -> Step {
-        Step {
-            run: self,
-            state: state,
+    // Reads on, up to the end of a line or of the buffer.
+    pub fn read_on(
+        mut self,
+        buffer: &mut [u8; BUFFER],
+        words: &mut [u64; WORDS],
+        slots: &mut [u64; SPIS],
+    ) -> Run {
+        self.called = false;
+        let mut lexer = self.lexer;
+        if lexer.end <= lexer.at {
+            return self.fill(buffer);
         }
+        lexer = lexer.take_in(buffer, words);
+        if lexer.bad {
+            return self.broken_off();
+        }
+        if lexer.whole {
+            self.lexer = Lexer::new(lexer.at, lexer.end);
+            return self.take_line(lexer.count, words, slots);
+        }
+        self.lexer = lexer;
+        self
     }
 
-    pub fn byte(mut self, byte: u8, words: &mut [u64; WORDS]) -> Run {
-        let lexer = self.lexer;
-        match lexer.byte(byte, words) {
-            Lexed::More(next) => {
-                self.lexer = next;
-                self
-            }
-            Lexed::Line(count) => {
-                self.lexer = Lexer::new();
-                self.whole = true;
-                self.words = count;
-                self
-            }
-            Lexed::Bad => self.cut(),
+    fn fill(mut self, buffer: &mut [u8; BUFFER]) -> Run {
+        let got = libc::read(STDIN_FILENO, buffer);
+        if got < 0 {
+            report::unread();
+            return self.stopped();
         }
+        if got == 0 {
+            return self.ended();
+        }
+        let end = io::count(got, buffer);
+        self.lexer.at = 0;
+        self.lexer.end = end;
+        self
     }
 
-    // The input is at its end: a line that has begun is cut.
-    fn end(mut self) -> Run {
+    // The input is at its end.
+    fn ended(self) -> Run {
         let lexer = self.lexer;
-        self.reading = false;
-        if lexer.within() { self.cut() } else { self }
+        if lexer.within() {
+            return self.broken_off();
+        }
+        if self.lines == 0 {
+            report::no_call();
+        } else {
+            report::summary(self.identifiers, self.creations, self.guest, self.host);
+        }
+        self.stopped()
     }
 
     // The line that has begun is bad.
-    fn cut(mut self) -> Run {
+    fn broken_off(mut self) -> Run {
         self.lines = next(self.lines);
         self.bad()
     }
@@ -131,66 +111,31 @@ impl Run {
 
     fn stopped(mut self) -> Run {
         self.reading = false;
-        self.sound = false;
         self
     }
 
-    // The line that is whole.
-    pub fn line(
-        mut self,
-        d: DistributorState,
-        words: &[u64; WORDS],
-        slots: &mut [u64; SPIS],
-    ) -> Step {
-        self.whole = false;
+    // Holds the line to its form, and takes over the slots that it lists. A creation starts from fresh ones, and a refused one
+    // leaves no Distributor.
+    fn take_line(mut self, count: usize, words: &[u64; WORDS], slots: &mut [u64; SPIS]) -> Run {
         self.lines = next(self.lines);
-        match line::parse(words, self.words) {
-            Parsed::Whole(line) => self.taken(d, line, words, slots),
-            Parsed::Bad => self.bad().with(d),
+        if !line::is_whole(words, count) {
+            return self.bad();
         }
-    }
-
-    // Takes over what the line says of the slots. A creation starts from fresh ones, and a refused one leaves no Distributor.
-    fn taken(
-        mut self,
-        d: DistributorState,
-        line: Line,
-        words: &[u64; WORDS],
-        slots: &mut [u64; SPIS],
-    ) -> Step {
-        let call = line.call;
-        let seen = line.seen;
-        if !arguments::proper(call, self.made) {
-            return self.bad().with(d);
-        }
+        let call = line::call_of(words);
+        let seen = line::seen_of(words);
         if call.op == 0x10 {
             self.made = seen.kind == 0;
+            self.spis = if self.made { call.a } else { 0 };
             *slots = [FRESH; SPIS];
         }
-        if !table::take_over(words, line.first, line.end, slots) {
-            return self.bad().with(d);
+        if !arguments::proper(call, seen, self.made, self.spis) {
+            return self.bad();
         }
-        self.counted(call.op).call(d, line, words, slots)
-    }
-
-    // Runs the line's call, and holds what is seen of it against the line.
-    fn call(
-        self,
-        d: DistributorState,
-        line: Line,
-        words: &[u64; WORDS],
-        slots: &[u64; SPIS],
-    ) -> Step {
-        let mut list = [UNTOUCHED; PLACES];
-        let ran = run::run(d, line.call, &mut list);
-        let state = ran.state;
-        let difference = compare::compare(state, line.seen, ran.answer, &list, words, slots);
-        if difference.is_nothing() {
-            self.with(state)
-        } else {
-            report::difference(self.lines, difference);
-            self.stopped().with(state)
+        if !table::take_over(words, count, self.spis, slots) {
+            return self.bad();
         }
+        self.called = true;
+        self.counted(call.op)
     }
 
     fn counted(mut self, op: u64) -> Run {
@@ -201,6 +146,16 @@ impl Run {
             _ => self.host = next(self.host),
         }
         self
+    }
+
+    // The line's call was run. Its answer is held against the line, and then the slots.
+    pub fn compared(self, answer: Difference, slots: Difference) -> Run {
+        let difference = answer.or(slots);
+        if difference.is_nothing() {
+            return self;
+        }
+        report::difference(self.lines, difference);
+        self.stopped()
     }
 }
 

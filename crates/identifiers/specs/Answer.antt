@@ -37,19 +37,19 @@ toldRefusal f = refused (numberOf f) (carriedBy f)
 
 -- what each maker's answer says
 abbrev pub toldSgi : SgiIdAnswer → Answer
-toldSgi (SgiIdAnswer.Made i) = done (i .0 ∷ [])
+toldSgi (SgiIdAnswer.Done i) = done (i .0 ∷ [])
 toldSgi (SgiIdAnswer.Refused f) = toldRefusal f
 
 abbrev pub toldPpi : PpiIdAnswer → Answer
-toldPpi (PpiIdAnswer.Made i) = done (i .0 ∷ [])
+toldPpi (PpiIdAnswer.Done i) = done (i .0 ∷ [])
 toldPpi (PpiIdAnswer.Refused f) = toldRefusal f
 
 abbrev pub toldSpi : SpiIdAnswer → Answer
-toldSpi (SpiIdAnswer.Made i) = done (i .0 ∷ [])
+toldSpi (SpiIdAnswer.Done i) = done (i .0 ∷ [])
 toldSpi (SpiIdAnswer.Refused f) = toldRefusal f
 
 abbrev pub toldLpi : LpiIdAnswer → Answer
-toldLpi (LpiIdAnswer.Made i) = done (i .0 ∷ [])
+toldLpi (LpiIdAnswer.Done i) = done (i .0 ∷ [])
 toldLpi (LpiIdAnswer.Refused f) = toldRefusal f
 
 -- an INTID's kind as a number: 0 SGI, 1 PPI, 2 SPI, 3 LPI
@@ -72,7 +72,7 @@ sgi (IntId.Spi i) = false
 sgi (IntId.Lpi i) = false
 
 abbrev pub toldIntId : IntIdAnswer → Answer
-toldIntId (IntIdAnswer.Made i) = done (kindOf i ∷ rawOf i ∷ [])
+toldIntId (IntIdAnswer.Done i) = done (kindOf i ∷ rawOf i ∷ [])
 toldIntId (IntIdAnswer.Refused f) = toldRefusal f
 
 -- from lo up to below end

@@ -35,27 +35,27 @@ pub told-refusal : (f g : Refusal) → toldRefusal f ≡ toldRefusal g → f ≡
 told-refusal f g e = sym (refusalOf-told f) ∙ ap refusalOf e ∙ refusalOf-told g
 
 pub told-sgi : (a b : SgiIdAnswer) → toldSgi a ≡ toldSgi b → a ≡ b
-told-sgi (SgiIdAnswer.Made i) (SgiIdAnswer.Made j) e = let p : i .0 ≡ j .0 = cc in ap (λ (n : ℕ). SgiIdAnswer.Made (record { 0 = n })) p
-told-sgi (SgiIdAnswer.Made i) (SgiIdAnswer.Refused g) e = cc
-told-sgi (SgiIdAnswer.Refused f) (SgiIdAnswer.Made j) e = cc
+told-sgi (SgiIdAnswer.Done i) (SgiIdAnswer.Done j) e = let p : i .0 ≡ j .0 = cc in ap (λ (n : ℕ). SgiIdAnswer.Done (record { 0 = n })) p
+told-sgi (SgiIdAnswer.Done i) (SgiIdAnswer.Refused g) e = cc
+told-sgi (SgiIdAnswer.Refused f) (SgiIdAnswer.Done j) e = cc
 told-sgi (SgiIdAnswer.Refused f) (SgiIdAnswer.Refused g) e = ap SgiIdAnswer.Refused (told-refusal f g e)
 
 pub told-ppi : (a b : PpiIdAnswer) → toldPpi a ≡ toldPpi b → a ≡ b
-told-ppi (PpiIdAnswer.Made i) (PpiIdAnswer.Made j) e = let p : i .0 ≡ j .0 = cc in ap (λ (n : ℕ). PpiIdAnswer.Made (record { 0 = n })) p
-told-ppi (PpiIdAnswer.Made i) (PpiIdAnswer.Refused g) e = cc
-told-ppi (PpiIdAnswer.Refused f) (PpiIdAnswer.Made j) e = cc
+told-ppi (PpiIdAnswer.Done i) (PpiIdAnswer.Done j) e = let p : i .0 ≡ j .0 = cc in ap (λ (n : ℕ). PpiIdAnswer.Done (record { 0 = n })) p
+told-ppi (PpiIdAnswer.Done i) (PpiIdAnswer.Refused g) e = cc
+told-ppi (PpiIdAnswer.Refused f) (PpiIdAnswer.Done j) e = cc
 told-ppi (PpiIdAnswer.Refused f) (PpiIdAnswer.Refused g) e = ap PpiIdAnswer.Refused (told-refusal f g e)
 
 pub told-spi : (a b : SpiIdAnswer) → toldSpi a ≡ toldSpi b → a ≡ b
-told-spi (SpiIdAnswer.Made i) (SpiIdAnswer.Made j) e = let p : i .0 ≡ j .0 = cc in ap (λ (n : ℕ). SpiIdAnswer.Made (record { 0 = n })) p
-told-spi (SpiIdAnswer.Made i) (SpiIdAnswer.Refused g) e = cc
-told-spi (SpiIdAnswer.Refused f) (SpiIdAnswer.Made j) e = cc
+told-spi (SpiIdAnswer.Done i) (SpiIdAnswer.Done j) e = let p : i .0 ≡ j .0 = cc in ap (λ (n : ℕ). SpiIdAnswer.Done (record { 0 = n })) p
+told-spi (SpiIdAnswer.Done i) (SpiIdAnswer.Refused g) e = cc
+told-spi (SpiIdAnswer.Refused f) (SpiIdAnswer.Done j) e = cc
 told-spi (SpiIdAnswer.Refused f) (SpiIdAnswer.Refused g) e = ap SpiIdAnswer.Refused (told-refusal f g e)
 
 pub told-lpi : (a b : LpiIdAnswer) → toldLpi a ≡ toldLpi b → a ≡ b
-told-lpi (LpiIdAnswer.Made i) (LpiIdAnswer.Made j) e = let p : i .0 ≡ j .0 = cc in ap (λ (n : ℕ). LpiIdAnswer.Made (record { 0 = n })) p
-told-lpi (LpiIdAnswer.Made i) (LpiIdAnswer.Refused g) e = cc
-told-lpi (LpiIdAnswer.Refused f) (LpiIdAnswer.Made j) e = cc
+told-lpi (LpiIdAnswer.Done i) (LpiIdAnswer.Done j) e = let p : i .0 ≡ j .0 = cc in ap (λ (n : ℕ). LpiIdAnswer.Done (record { 0 = n })) p
+told-lpi (LpiIdAnswer.Done i) (LpiIdAnswer.Refused g) e = cc
+told-lpi (LpiIdAnswer.Refused f) (LpiIdAnswer.Done j) e = cc
 told-lpi (LpiIdAnswer.Refused f) (LpiIdAnswer.Refused g) e = ap LpiIdAnswer.Refused (told-refusal f g e)
 
 -- an INTID of any kind is its kind and its number
@@ -72,7 +72,7 @@ intIdOf-told (IntId.Spi i) = refl
 intIdOf-told (IntId.Lpi i) = refl
 
 pub told-intid : (a b : IntIdAnswer) → toldIntId a ≡ toldIntId b → a ≡ b
-told-intid (IntIdAnswer.Made i) (IntIdAnswer.Made j) e = cc (intIdOf-told i, intIdOf-told j)
-told-intid (IntIdAnswer.Made i) (IntIdAnswer.Refused g) e = cc
-told-intid (IntIdAnswer.Refused f) (IntIdAnswer.Made j) e = cc
+told-intid (IntIdAnswer.Done i) (IntIdAnswer.Done j) e = cc (intIdOf-told i, intIdOf-told j)
+told-intid (IntIdAnswer.Done i) (IntIdAnswer.Refused g) e = cc
+told-intid (IntIdAnswer.Refused f) (IntIdAnswer.Done j) e = cc
 told-intid (IntIdAnswer.Refused f) (IntIdAnswer.Refused g) e = ap IntIdAnswer.Refused (told-refusal f g e)

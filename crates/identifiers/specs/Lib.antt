@@ -1,5 +1,6 @@
 pub mod Answer
 pub mod Affinity
-pub mod State
+pub mod States
 pub mod AnswerLaws
 pub mod AffinityLaws
+pub mod StateLaws

@@ -1,9 +1,10 @@
 // Bounded identifiers, affinity, priority, trigger and state. Only a maker makes an identifier, so none is out of its range.
 use crate::error::Refusal;
 ghost use mathlib.Core.Path.{_≡_};
+ghost use Prim.Native.Nat.{_+_, min};
 ghost use Rattle.identifiers.specs.Answer.{idAnswer, intIdAnswer, toldSgi, toldPpi, toldSpi, toldLpi, toldIntId, rawOf, sgi};
 ghost use Rattle.identifiers.specs.Affinity.{affinity, fromMpidr, mpidrOf};
-ghost use Rattle.identifiers.specs.State.{pendingOf, activeOf, stateOf, levelOf};
+ghost use Rattle.identifiers.specs.States.{pendingOf, activeOf, stateOf, levelOf};
 
 // The first INTID of an LPI.
 pub const LPI_INTID_BASE: u32 = 8192;
@@ -23,22 +24,22 @@ pub struct SpiId(u32);
 pub struct LpiId(u32);
 
 pub enum SgiIdAnswer {
-    Made(SgiId),
+    Done(SgiId),
     Refused(Refusal),
 }
 
 pub enum PpiIdAnswer {
-    Made(PpiId),
+    Done(PpiId),
     Refused(Refusal),
 }
 
 pub enum SpiIdAnswer {
-    Made(SpiId),
+    Done(SpiId),
     Refused(Refusal),
 }
 
 pub enum LpiIdAnswer {
-    Made(LpiId),
+    Done(LpiId),
     Refused(Refusal),
 }
 
@@ -47,7 +48,7 @@ impl SgiId {
         ensures { λ r. ⌜ toldSgi r ≡ idAnswer 0 16 raw ⌝ }
     {
         if raw < 16 {
-            SgiIdAnswer::Made(SgiId(raw))
+            SgiIdAnswer::Done(SgiId(raw))
         } else {
             SgiIdAnswer::Refused(Refusal::InvalidIntId(raw as u32))
         }
@@ -65,7 +66,7 @@ impl PpiId {
         ensures { λ r. ⌜ toldPpi r ≡ idAnswer 16 32 raw ⌝ }
     {
         if (16 <= raw) & (raw < 32) {
-            PpiIdAnswer::Made(PpiId(raw))
+            PpiIdAnswer::Done(PpiId(raw))
         } else {
             PpiIdAnswer::Refused(Refusal::InvalidIntId(raw as u32))
         }
@@ -79,13 +80,18 @@ impl PpiId {
 }
 
 impl SpiId {
-    pub const FIRST: SpiId = SpiId(32);
+    // The k-th, counted from 0; past the last, the last.
+    pub fn nth(k: u32) -> Self
+        ensures { λ r. ⌜ r .0 ≡ 32 + min k 987 ⌝ }
+    {
+        if k < 987 { SpiId(32 + k) } else { SpiId(1019) }
+    }
 
     pub fn new(raw: u32) -> SpiIdAnswer
         ensures { λ r. ⌜ toldSpi r ≡ idAnswer 32 1020 raw ⌝ }
     {
         if (32 <= raw) & (raw < 1020) {
-            SpiIdAnswer::Made(SpiId(raw))
+            SpiIdAnswer::Done(SpiId(raw))
         } else {
             SpiIdAnswer::Refused(Refusal::InvalidIntId(raw))
         }
@@ -103,7 +109,7 @@ impl LpiId {
         ensures { λ r. ⌜ toldLpi r ≡ idAnswer 8192 0x1000000 raw ⌝ }
     {
         if (LPI_INTID_BASE <= raw) & (raw <= LPI_INTID_MAX) {
-            LpiIdAnswer::Made(LpiId(raw))
+            LpiIdAnswer::Done(LpiId(raw))
         } else {
             LpiIdAnswer::Refused(Refusal::InvalidIntId(raw))
         }
@@ -125,7 +131,7 @@ pub enum IntId {
 }
 
 pub enum IntIdAnswer {
-    Made(IntId),
+    Done(IntId),
     Refused(Refusal),
 }
 
@@ -135,10 +141,10 @@ impl IntId {
         ensures { λ r. ⌜ toldIntId r ≡ intIdAnswer raw ⌝ }
     {
         match raw {
-            0..=15 => IntIdAnswer::Made(IntId::Sgi(SgiId(raw as u8))),
-            16..=31 => IntIdAnswer::Made(IntId::Ppi(PpiId(raw as u8))),
-            32..=1019 => IntIdAnswer::Made(IntId::Spi(SpiId(raw))),
-            LPI_INTID_BASE..=LPI_INTID_MAX => IntIdAnswer::Made(IntId::Lpi(LpiId(raw))),
+            0..=15 => IntIdAnswer::Done(IntId::Sgi(SgiId(raw as u8))),
+            16..=31 => IntIdAnswer::Done(IntId::Ppi(PpiId(raw as u8))),
+            32..=1019 => IntIdAnswer::Done(IntId::Spi(SpiId(raw))),
+            LPI_INTID_BASE..=LPI_INTID_MAX => IntIdAnswer::Done(IntId::Lpi(LpiId(raw))),
             _ => IntIdAnswer::Refused(Refusal::InvalidIntId(raw)),
         }
     }

@@ -10,7 +10,7 @@ use Rattle.interrupt.specs.declared.interrupt.InterruptRecord.{Interrupt
 use Rattle.interrupt.specs.declared.interrupt.Route.{Route}
 use Rattle.interrupt.specs.declared.interrupt.TargetMask.{TargetMask}
 use Rattle.identifiers.specs.Affinity.{affinity}
-use Rattle.identifiers.specs.State.{levelOf, pendingOf, activeOf, stateOf}
+use Rattle.identifiers.specs.States.{levelOf, pendingOf, activeOf, stateOf}
 use Rattle.identifiers.specs.Answer.{sgi}
 
 -- a new interrupt: enabled where it is an SGI, its priority 0x80, with no route and no target mask; nothing has happened to it
@@ -72,8 +72,8 @@ unfoldable pub stateTo : InterruptState → InterruptRecord → InterruptRecord
 stateTo s r = activeAs (activeOf s) (pendingAs (pendingOf s) r)
 
 -- something is still to be delivered or finished
-unfoldable pub held : InterruptRecord → Bool
-held r = r .pending || r .active || r .inflight || redelivery r
+unfoldable pub hasDelivery : InterruptRecord → Bool
+hasDelivery r = r .pending || r .active || r .inflight || redelivery r
 
 unfoldable pub cleared : InterruptRecord → InterruptRecord
 cleared r = flags (r .enabled) false false false false false r
@@ -82,26 +82,26 @@ unfoldable pub taken : InterruptRecord → InterruptRecord
 taken r = inflightAs true r
 
 -- the state that the list register has, and pending besides where it is to be delivered again
-unfoldable pub joined : InterruptState → InterruptRecord → InterruptRecord
-joined s r = pendingAs (pendingOf s || redelivery r) (stateTo s r)
+unfoldable pub mergedRecord : InterruptState → InterruptRecord → InterruptRecord
+mergedRecord s r = pendingAs (pendingOf s || redelivery r) (stateTo s r)
 
 unfoldable pub merged : InterruptState → InterruptRecord → InterruptState
-merged s r = stateIn (joined s r)
+merged s r = stateIn (mergedRecord s r)
 
 -- the redelivery mark is dropped only where the merged state is active and pending
 unfoldable pub synchronized : InterruptState → InterruptRecord → InterruptRecord
-synchronized s r = let m = joined s r in redeliveryAs (redelivery r && not (m .pending && m .active)) m
+synchronized s r = let m = mergedRecord s r in redeliveryAs (redelivery r && not (m .pending && m .active)) m
 
 -- no longer in flight, and pending or not; what was to be delivered again is counted in
-unfoldable pub landed : Bool → InterruptRecord → InterruptRecord
-landed p r = flags (r .enabled) p (r .active) false false (line r) r
+unfoldable pub outOfFlight : Bool → InterruptRecord → InterruptRecord
+outOfFlight p r = flags (r .enabled) p (r .active) false false (line r) r
 
 unfoldable pub cancelled : InterruptRecord → InterruptRecord
-cancelled r = landed (r .pending || redelivery r) r
+cancelled r = outOfFlight (r .pending || redelivery r) r
 
 -- `carried`: the list register was still pending as it was given up
 unfoldable pub deactivated : Bool → InterruptRecord → InterruptRecord
-deactivated carried r = activeAs false (landed (carried || redelivery r || levelHigh r) r)
+deactivated carried r = activeAs false (outOfFlight (carried || redelivery r || levelHigh r) r)
 
 unfoldable pub priorityTo : Priority → InterruptRecord → InterruptRecord
 priorityTo p r = settings p (r .trigger) (r .routed) (r .route) (r .masked) (r .«cpu_target_mask») r

@@ -8,7 +8,7 @@ use identifiers::types::Priority;
 use identifiers::types::TriggerMode;
 ghost use mathlib.Core.Path.{_≡_};
 ghost use mathlib.Core.Bool.{false};
-ghost use Rattle.interrupt.specs.Life.{fresh, enabledTo, pendingTo, activeTo, stateTo, stateIn, held, cleared, taken, merged, synchronized, cancelled, deactivated, priorityTo, triggerTo, routeIn, routeTo, unrouted, maskIn, maskTo, levelTo, pulsed, completed, deliverableIn, levelHigh};
+ghost use Rattle.interrupt.specs.Life.{fresh, enabledTo, pendingTo, activeTo, stateTo, stateIn, hasDelivery, cleared, taken, merged, synchronized, cancelled, deactivated, priorityTo, triggerTo, routeIn, routeTo, unrouted, maskIn, maskTo, levelTo, pulsed, completed, deliverableIn, levelHigh};
 
 pub struct InterruptRecord {
     intid: IntId,
@@ -133,7 +133,7 @@ impl InterruptRecord {
     }
 
     pub fn has_delivery_state(self) -> bool
-        ensures { λ r. ⌜ r ≡ held self ⌝ }
+        ensures { λ r. ⌜ r ≡ hasDelivery self ⌝ }
     {
         self.pending | self.active | self.inflight | self.redelivery_pending
     }

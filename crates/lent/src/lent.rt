@@ -23,15 +23,15 @@ pub fn pulse_in_place(r: &mut InterruptRecord)
 pub fn set_level_lent(interrupt: InterruptRecord, asserted: bool) -> InterruptRecord
     ensures { λ r. ⌜ r ≡ levelTo asserted interrupt ⌝ }
 {
-    let mut held = interrupt;
-    set_level_in_place(&mut held, asserted);
-    held
+    let mut lent = interrupt;
+    set_level_in_place(&mut lent, asserted);
+    lent
 }
 
 pub fn pulse_lent(interrupt: InterruptRecord) -> InterruptRecord
     ensures { λ r. ⌜ r ≡ pulsed interrupt ⌝ }
 {
-    let mut held = interrupt;
-    pulse_in_place(&mut held);
-    held
+    let mut lent = interrupt;
+    pulse_in_place(&mut lent);
+    lent
 }

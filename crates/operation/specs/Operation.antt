@@ -2,8 +2,8 @@
 use mathlib.Core.Bool.{false}
 use Rattle.interrupt.specs.declared.interrupt.InterruptRecord.{InterruptRecord}
 use Rattle.operation.specs.declared.operation.Operation.{Operation}
-use Rattle.operation.specs.declared.operation.Operation.the-variants.{SetEnabled, SetPending, SetActive, SetState, ClearDeliveryState, MarkInflight, SynchronizeInflight, CancelInflight, FinishInflight, DeactivateInflight, SetPriority, SetTrigger, SetRoute, ClearRoute, SetCpuTargetMask, SetLevel, Pulse, Complete}
-use Rattle.interrupt.specs.Life.{enabledTo, pendingTo, activeTo, stateTo, cleared, taken, synchronized, cancelled, deactivated, priorityTo, triggerTo, routeTo, unrouted, maskTo, levelTo, pulsed, completed}
+use Rattle.operation.specs.declared.operation.Operation.the-variants.{SetEnabled, SetPending, SetActive, SetState, ClearDeliveryState, MarkInflight, CancelInflight, FinishInflight, DeactivateInflight, SetPriority, SetTrigger, SetRoute, ClearRoute, SetLevel, Pulse, Complete}
+use Rattle.interrupt.specs.Life.{enabledTo, pendingTo, activeTo, stateTo, cleared, taken, cancelled, deactivated, priorityTo, triggerTo, routeTo, unrouted, levelTo, pulsed, completed}
 
 abbrev pub applied : Operation → InterruptRecord → InterruptRecord
 applied (SetEnabled on) r = enabledTo on r
@@ -12,7 +12,6 @@ applied (SetActive on) r = activeTo on r
 applied (SetState s) r = stateTo s r
 applied ClearDeliveryState r = cleared r
 applied MarkInflight r = taken r
-applied (SynchronizeInflight s) r = synchronized s r
 applied CancelInflight r = cancelled r
 applied FinishInflight r = deactivated false r
 applied (DeactivateInflight p) r = deactivated p r
@@ -20,7 +19,6 @@ applied (SetPriority p) r = priorityTo p r
 applied (SetTrigger t) r = triggerTo t r
 applied (SetRoute a) r = routeTo a r
 applied ClearRoute r = unrouted r
-applied (SetCpuTargetMask m) r = maskTo m r
 applied (SetLevel high) r = levelTo high r
 applied Pulse r = pulsed r
 applied Complete r = completed r

@@ -6,15 +6,16 @@ use mathlib.Core.Bool.{Bool, true, false, _&&_, cond, true≢false}
 use Rattle.identifiers.specs.declared.types.IntId.{IntId}
 use Rattle.identifiers.specs.declared.types.GicAffinity.{GicAffinity}
 use Rattle.identifiers.specs.declared.types.TriggerMode.{TriggerMode}
+use Rattle.identifiers.specs.declared.types.InterruptState.{InterruptState}
 use Rattle.interrupt.specs.declared.interrupt.InterruptRecord.{InterruptRecord}
 use Rattle.interrupt.specs.declared.interrupt.Route.{Route}
 use Rattle.interrupt.specs.declared.interrupt.TargetMask.{TargetMask}
 use Rattle.operation.specs.declared.operation.Operation.{Operation}
-use Rattle.operation.specs.declared.operation.Operation.the-variants.{SetEnabled, SetPending, SetActive, SetState, ClearDeliveryState, MarkInflight, SynchronizeInflight, CancelInflight, FinishInflight, DeactivateInflight, SetPriority, SetTrigger, SetRoute, ClearRoute, SetCpuTargetMask, SetLevel, Pulse, Complete}
+use Rattle.operation.specs.declared.operation.Operation.the-variants.{SetEnabled, SetPending, SetActive, SetState, ClearDeliveryState, MarkInflight, CancelInflight, FinishInflight, DeactivateInflight, SetPriority, SetTrigger, SetRoute, ClearRoute, SetLevel, Pulse, Complete}
 use Rattle.identifiers.specs.Affinity.{affinity}
-use Rattle.interrupt.specs.Life.{fresh, routeIn, maskIn}
+use Rattle.interrupt.specs.Life.{fresh, synchronized, maskTo, routeIn, maskIn}
 use Rattle.operation.specs.Operation.{applied}
-use Rattle.operation.specs.Laws.{Settings, settingsOf, settingsAfter, flagsOf, settings-after, fresh-settings, record-path}
+use Rattle.operation.specs.Laws.{Settings, settingsOf, settingsAfter, flagsOf, settings-after, fresh-settings, synchronized-settings, mask-settings, record-path}
 
 abbrev pub Tidy : Settings → Type 0
 Tidy s = (s .2 ≡ false → s .3 ≡ affinity 0 0 0 0) × (s .4 ≡ false → s .5 ≡ 0) × ((s .2 && s .4) ≡ false)
@@ -29,7 +30,6 @@ tidy-after (SetActive on) r h = h
 tidy-after (SetState s) r h = h
 tidy-after ClearDeliveryState r h = h
 tidy-after MarkInflight r h = h
-tidy-after (SynchronizeInflight s) r h = h
 tidy-after CancelInflight r h = h
 tidy-after FinishInflight r h = h
 tidy-after (DeactivateInflight p) r h = h
@@ -41,10 +41,15 @@ tidy-after (SetPriority p) r h = h
 tidy-after (SetTrigger t) r h = h
 tidy-after (SetRoute a) r h = ((λ e. absurd (true≢false e)), (λ e. refl), refl)
 tidy-after ClearRoute r h = ((λ e. refl), h .1, refl)
-tidy-after (SetCpuTargetMask m) r h = ((λ e. refl), (λ e. absurd (true≢false e)), refl)
 
 pub tidy-kept : (o : Operation) (r : InterruptRecord) → Tidy (settingsOf r) → Tidy (settingsOf (applied o r))
 tidy-kept o r h = subst⁻¹ Tidy (settings-after o r) (tidy-after o r h)
+
+pub tidy-synchronized : (s : InterruptState) (r : InterruptRecord) → Tidy (settingsOf r) → Tidy (settingsOf (synchronized s r))
+tidy-synchronized s r h = subst⁻¹ Tidy (synchronized-settings s r) h
+
+pub tidy-mask : (m : ℕ) (r : InterruptRecord) → Tidy (settingsOf (maskTo m r))
+tidy-mask m r = subst⁻¹ Tidy (mask-settings m r) ((λ e. refl), (λ e. absurd (true≢false e)), refl)
 
 -- a flag and a value that is 0 where the flag is off are what they read as
 route-read : (b c : Bool) (a d : GicAffinity) → (b ≡ false → a ≡ affinity 0 0 0 0) → (c ≡ false → d ≡ affinity 0 0 0 0) → cond b (Route.To a) Route.Unset ≡ cond c (Route.To d) Route.Unset → (b ≡ c) × (a ≡ d)

@@ -1,4 +1,5 @@
-// The operations that change a record, as values: a caller names one, and `apply` does it.
+// The operations that only change a record, as values: a caller names one, and `apply` does it. Two are not among them: a
+// synchronisation also answers a state, and a target mask waits on whether the SPI's route is fixed, which no record knows.
 use identifiers::types::GicAffinity;
 use identifiers::types::InterruptState;
 use identifiers::types::Priority;
@@ -14,7 +15,6 @@ pub enum Operation {
     SetState(InterruptState),
     ClearDeliveryState,
     MarkInflight,
-    SynchronizeInflight(InterruptState),
     CancelInflight,
     FinishInflight,
     DeactivateInflight(bool),
@@ -22,7 +22,6 @@ pub enum Operation {
     SetTrigger(TriggerMode),
     SetRoute(GicAffinity),
     ClearRoute,
-    SetCpuTargetMask(u8),
     SetLevel(bool),
     Pulse,
     Complete,
@@ -38,10 +37,6 @@ pub fn apply(interrupt: InterruptRecord, operation: Operation) -> InterruptRecor
         Operation::SetState(state) => interrupt.set_state(state),
         Operation::ClearDeliveryState => interrupt.clear_delivery_state(),
         Operation::MarkInflight => interrupt.mark_inflight(),
-        Operation::SynchronizeInflight(state) => {
-            let s = interrupt.synchronize_inflight(state);
-            s.interrupt
-        }
         Operation::CancelInflight => interrupt.cancel_inflight(),
         Operation::FinishInflight => interrupt.finish_inflight(),
         Operation::DeactivateInflight(pending) => interrupt.deactivate_inflight(pending),
@@ -49,7 +44,6 @@ pub fn apply(interrupt: InterruptRecord, operation: Operation) -> InterruptRecor
         Operation::SetTrigger(trigger) => interrupt.set_trigger(trigger),
         Operation::SetRoute(route) => interrupt.set_route(route),
         Operation::ClearRoute => interrupt.clear_route(),
-        Operation::SetCpuTargetMask(mask) => interrupt.set_cpu_target_mask(mask),
         Operation::SetLevel(asserted) => interrupt.set_level(asserted),
         Operation::Pulse => interrupt.pulse(),
         Operation::Complete => interrupt.complete(),

@@ -1,8 +1,9 @@
 // The stories of docs/LESSONS.md, run: five lines that an apprentice crosses, and why order binds the calls on one SPI.
+use crate::ask;
 use crate::k;
 use crate::read;
+use crate::read_byte;
 use crate::show;
-use crate::show_flag;
 use crate::spi;
 use crate::write;
 use distributor::distributor::DistributorState;
@@ -10,7 +11,8 @@ use identifiers::types::InterruptState;
 use identifiers::types::TriggerMode;
 use operation::operation::Operation;
 use registers::register::AccessWidth;
-use slot::change::Change;
+use spi::change::Change;
+use spi::question::Question;
 
 fn host(d: DistributorState, raw: u32, operation: Operation) -> DistributorState {
     let c = d.change(spi(raw), Change::Operate(operation));
@@ -19,71 +21,49 @@ fn host(d: DistributorState, raw: u32, operation: Operation) -> DistributorState
 
 // Enabled, and a pulse comes.
 fn waiting(raw: u32) -> DistributorState {
-    host(
-        host(k(), raw, Operation::SetEnabled(true)),
-        raw,
-        Operation::Pulse,
-    )
+    let mut d = k();
+    d = host(d, raw, Operation::SetEnabled(true));
+    d = host(d, raw, Operation::Pulse);
+    d
 }
 
 fn pending(d: DistributorState, raw: u32) {
-    show_flag(d.pending(spi(raw)));
+    ask(d, raw, Question::Pending);
 }
 
-// The write's bits run past the table, and 64 waits to be delivered.
-fn refused_write() {
+fn lessons_1_to_4() {
+    // The write's bits run past the table, and 64 waits to be delivered.
     show::text(b"lesson 1:");
-    let d = write(waiting(64), 0x108, AccessWidth::Dword, 0x1ff);
-    read(d, 0x108, AccessWidth::Dword);
-}
-
-// 35 is nobody's, and it waits.
-fn unclaimed() {
+    let mut d = write(waiting(64), 0x108, AccessWidth::Dword, 0x1ff);
+    read(d, 0x108);
+    // 35 is nobody's, and it waits.
     show::text(b"\nlesson 2:");
-    let d = waiting(35);
-    read(d, 0x204, AccessWidth::Dword);
+    d = waiting(35);
+    read(d, 0x204);
     write(d, 0x0, AccessWidth::Dword, 2);
-}
-
-fn widths() {
     show::text(b"\nlesson 3:");
-    let d = k();
-    read(d, 0x100, AccessWidth::Byte);
-    read(d, 0x101, AccessWidth::Byte);
-}
-
-fn released() {
+    d = k();
+    read_byte(d, 0x100);
+    read_byte(d, 0x101);
     show::text(b"\nlesson 4:");
-    let c = waiting(33).release_spi_claim(spi(33));
-    let d = c.state;
-    read(d, 0x84, AccessWidth::Dword);
-    show_flag(d.spi_enabled(spi(33)));
+    d = released(waiting(33));
+    read(d, 0x84);
+    ask(d, 33, Question::Enabled);
     pending(d, 33);
 }
 
-// 33, edge-triggered, in flight.
-fn in_flight() -> DistributorState {
-    host(
-        host(k(), 33, Operation::SetTrigger(TriggerMode::Edge)),
-        33,
-        Operation::MarkInflight,
-    )
+fn released(d: DistributorState) -> DistributorState {
+    let c = d.change(spi(33), Change::Release);
+    c.state
 }
 
 fn active(d: DistributorState) -> DistributorState {
-    host(
-        d,
-        33,
-        Operation::SynchronizeInflight(InterruptState::Active),
-    )
+    let c = d.change(spi(33), Change::SynchronizeInflight(InterruptState::Active));
+    c.state
 }
 
 fn high(d: DistributorState) -> DistributorState {
     host(d, 33, Operation::SetLevel(true))
-}
-
-fn cleared(d: DistributorState, raw: u32) -> DistributorState {
-    host(d, raw, Operation::SetPending(false))
 }
 
 // Whether 33 pends again once the core has finished.
@@ -91,23 +71,22 @@ fn finished(d: DistributorState) {
     pending(host(d, 33, Operation::FinishInflight), 33);
 }
 
-// The line is still high, or rises, while a core has 33 active.
-fn while_active(d: DistributorState) {
+// 33, edge-triggered, in flight.
+fn redelivery() {
+    show::text(b"\nlesson 5:");
+    let mut d = k();
+    d = host(d, 33, Operation::SetTrigger(TriggerMode::Edge));
+    d = host(d, 33, Operation::MarkInflight);
+    // The line is still high, or rises, while a core has 33 active.
     finished(high(active(high(d))));
     finished(high(active(d)));
-}
-
-// The line rises, or a pulse comes, before that.
-fn before_active(d: DistributorState) {
+    // The line rises, or a pulse comes, before that.
     pending(active(high(d)), 33);
     pending(active(host(d, 33, Operation::Pulse)), 33);
 }
 
-fn redelivery() {
-    show::text(b"\nlesson 5:");
-    let d = in_flight();
-    while_active(d);
-    before_active(d);
+fn cleared(d: DistributorState, raw: u32) -> DistributorState {
+    host(d, raw, Operation::SetPending(false))
 }
 
 // 33's line rises and this SPI is cleared, in either order.
@@ -117,18 +96,11 @@ fn either_order(raw: u32) {
     pending(high(cleared(d, raw)), raw);
 }
 
-fn order() {
+pub fn run() {
+    lessons_1_to_4();
+    redelivery();
     show::text(b"\nlesson 6:");
     either_order(33);
     either_order(64);
     show::text(b"\n");
-}
-
-pub fn run() {
-    refused_write();
-    unclaimed();
-    widths();
-    released();
-    redelivery();
-    order();
 }

@@ -1,16 +1,22 @@
 // The board's examples, run on the code: the twelve cases on K, those that are run besides, and the lessons. What is printed is held
 // to the file stdout beside src/.
-use distributor::access::ReadAnswer;
+use controller::controller::ControllerConfig;
+use controller::controller::GicV3SpiOwnership;
 use distributor::create::CreateAnswer;
 use distributor::create::Created;
 use distributor::distributor::DistributorState;
-use distributor::questions::Flag;
+use distributor::host::Changed;
+use host::host::claim_physical_spi;
+use host::host::claim_software_spi;
+use host::host::pulse;
+use host::host::release_spi_claim;
+use host::host::set_enabled;
+use host::host::set_level;
 use identifiers::types::GicAffinity;
 use identifiers::types::SpiId;
-use identifiers::types::SpiIdAnswer;
-use registers::controller::ControllerConfig;
-use registers::controller::GicV3SpiOwnership;
+use registers::answer::ReadAnswer;
 use registers::register::AccessWidth;
+use spi::question::Question;
 
 mod lessons;
 mod show;
@@ -29,10 +35,7 @@ fn plain(ownership: GicV3SpiOwnership) -> ControllerConfig {
 }
 
 fn spi(raw: u32) -> SpiId {
-    match SpiId::new(raw) {
-        SpiIdAnswer::Made(id) => id,
-        SpiIdAnswer::Refused(_) => SpiId::FIRST,
-    }
+    SpiId::nth(std::num::wrapping_sub_u32(raw, 32))
 }
 
 fn made(config: ControllerConfig, spi_count: u32) -> DistributorState {
@@ -40,37 +43,38 @@ fn made(config: ControllerConfig, spi_count: u32) -> DistributorState {
     c.state
 }
 
+// The state after a host call whose answer is not shown.
+fn after(c: Changed) -> DistributorState {
+    c.state
+}
+
 // 40 SPIs, explicit claims; 33 and 64 claimed by software, 65 physically with affinity 0.0.0.1.
 fn k() -> DistributorState {
-    let d = made(plain(GicV3SpiOwnership::Explicit), 40);
-    let a = d.claim_software_spi(spi(33));
-    let d = a.state;
-    let b = d.claim_software_spi(spi(64));
-    let d = b.state;
-    let c = d.claim_physical_spi(spi(65), GicAffinity::new(0, 0, 0, 1));
-    c.state
+    let mut d = made(plain(GicV3SpiOwnership::Explicit), 40);
+    d = after(claim_software_spi(d, spi(33)));
+    d = after(claim_software_spi(d, spi(64)));
+    d = after(claim_physical_spi(d, spi(65), GicAffinity::new(0, 0, 0, 1)));
+    d
 }
 
 fn show_created(c: Created) {
     let answer = c.answer;
     match answer {
-        CreateAnswer::Made => show::text(b" made"),
+        CreateAnswer::Done => show::text(b" made"),
         CreateAnswer::Refused(f) => show::refusal(f),
     }
 }
 
-fn show_flag(f: Flag) {
-    match f {
-        Flag::Is(b) => {
-            show::text(b" ");
-            show::decimal(b as u64);
-        }
-        Flag::Refused(r) => show::refusal(r),
-    }
+fn ask(d: DistributorState, raw: u32, question: Question) {
+    show::answer(d.ask(spi(raw), question));
 }
 
-fn read(d: DistributorState, offset: u64, width: AccessWidth) {
-    show::read(d.read(offset, width));
+fn read(d: DistributorState, offset: u64) {
+    show::read(d.read(offset, AccessWidth::Dword));
+}
+
+fn read_byte(d: DistributorState, offset: u64) {
+    show::read(d.read(offset, AccessWidth::Byte));
 }
 
 // A write on K's list of 40 places, each 9 before.
@@ -86,68 +90,52 @@ fn write(d: DistributorState, offset: u64, width: AccessWidth, value: u64) -> Di
     w.state
 }
 
-fn case_1() {
+fn cases_1_to_5() {
     show::text(b"1:");
     show_created(DistributorState::new(plain(GicV3SpiOwnership::Explicit), 988));
     show_created(DistributorState::new(plain(GicV3SpiOwnership::Explicit), 989));
-}
-
-fn cases_2_and_3(d: DistributorState) {
+    let d = k();
     show::text(b"\n2:");
-    read(d, 0xffe8, AccessWidth::Dword);
-    read(d, 0xffe8, AccessWidth::Byte);
+    read(d, 0xffe8);
+    read_byte(d, 0xffe8);
     show::text(b"\n3:");
-    read(d, 0xffe9, AccessWidth::Byte);
-    read(d, 0x102, AccessWidth::Dword);
-}
-
-fn cases_4_and_5(d: DistributorState) {
+    read_byte(d, 0xffe9);
+    read(d, 0x102);
     show::text(b"\n4:");
-    read(d, 0xffff_ffff_ffff_fffc, AccessWidth::Dword);
+    read(d, 0xffff_ffff_ffff_fffc);
     show::text(b"\n5:");
-    read(d, 0x4, AccessWidth::Dword);
+    read(d, 0x4);
 }
 
-fn case_6() {
+fn cases_6_to_9() {
     show::text(b"\n6:");
-    let d = write(k(), 0x108, AccessWidth::Dword, 0x1ff);
+    let mut d = write(k(), 0x108, AccessWidth::Dword, 0x1ff);
     show::text(b", enabled");
-    read(d, 0x108, AccessWidth::Dword);
-}
-
-fn case_7() {
+    read(d, 0x108);
     show::text(b"\n7:");
-    let d = write(k(), 0x17c, AccessWidth::Dword, 0xf000_0000);
+    d = write(k(), 0x17c, AccessWidth::Dword, 0xf000_0000);
     show::text(b", enabled");
-    read(d, 0x104, AccessWidth::Dword);
-    read(d, 0x108, AccessWidth::Dword);
-}
-
-fn cases_8_and_9() {
+    read(d, 0x104);
+    read(d, 0x108);
     show::text(b"\n8:");
-    let d = write(k(), 0x6108, AccessWidth::Qword, 0x1_8002_0304);
-    read(d, 0x6108, AccessWidth::Qword);
+    d = write(k(), 0x6108, AccessWidth::Qword, 0x1_8002_0304);
+    show::read(d.read(0x6108, AccessWidth::Qword));
     show::text(b"\n9:");
-    let d = write(k(), 0x6208, AccessWidth::Qword, 2);
-    read(d, 0x6208, AccessWidth::Qword);
+    d = write(k(), 0x6208, AccessWidth::Qword, 2);
+    show::read(d.read(0x6208, AccessWidth::Qword));
 }
 
-fn case_10() {
+fn cases_10_and_11() {
     show::text(b"\n10:");
-    let high = k().set_level(spi(33), true);
-    let d = write(high.state, 0x284, AccessWidth::Dword, 2);
+    let mut d = after(set_level(k(), spi(33), true));
+    d = write(d, 0x284, AccessWidth::Dword, 2);
     show::text(b", 33 pending");
-    show_flag(d.pending(spi(33)));
-}
-
-fn case_11() {
+    ask(d, 33, Question::Pending);
     show::text(b"\n11:");
-    let on = k().set_enabled(spi(33), true);
-    let d = on.state;
-    let pulsed = d.pulse(spi(33));
-    let d = pulsed.state;
-    let released = d.release_spi_claim(spi(33));
-    write(released.state, 0x0, AccessWidth::Dword, 2);
+    d = after(set_enabled(k(), spi(33), true));
+    d = after(pulse(d, spi(33)));
+    d = after(release_spi_claim(d, spi(33)));
+    write(d, 0x0, AccessWidth::Dword, 2);
 }
 
 fn case_12() {
@@ -157,7 +145,8 @@ fn case_12() {
     let w = d.write(0x7f8, AccessWidth::Qword, 0x8877_6655_4433_2211, &mut list);
     let answer = w.answer;
     show::written(answer);
-    read(w.state, 0x7f8, AccessWidth::Qword);
+    let d = w.state;
+    show::read(d.read(0x7f8, AccessWidth::Qword));
 }
 
 // TYPER's id field, in bits 23..19.
@@ -165,9 +154,8 @@ fn id_field(lpi_limit: u32) {
     let mut config = plain(GicV3SpiOwnership::AllGuestOwned);
     config.its = true;
     config.lpi_limit = lpi_limit;
-    let d = made(config, 0);
-    match d.read(0x4, AccessWidth::Dword) {
-        ReadAnswer::Value(v) => {
+    match made(config, 0).read(0x4, AccessWidth::Dword) {
+        ReadAnswer::Done(v) => {
             show::text(b" ");
             show::decimal(v / 0x8_0000 % 32);
         }
@@ -175,44 +163,23 @@ fn id_field(lpi_limit: u32) {
     }
 }
 
-fn typers() {
-    show::text(b"\nTYPER at 0 and 988:");
-    read(
-        made(plain(GicV3SpiOwnership::Explicit), 0),
-        0x4,
-        AccessWidth::Dword,
-    );
-    read(
-        made(plain(GicV3SpiOwnership::Explicit), 988),
-        0x4,
-        AccessWidth::Dword,
-    );
-}
-
 fn run_also() {
-    typers();
+    show::text(b"\nTYPER at 0 and 988:");
+    read(made(plain(GicV3SpiOwnership::Explicit), 0), 0x4);
+    read(made(plain(GicV3SpiOwnership::Explicit), 988), 0x4);
     show::text(b"\nid field at 65535 and 65536:");
     id_field(65535);
     id_field(65536);
     show::text(b"\nIGROUPR at 0x84:");
-    read(k(), 0x84, AccessWidth::Dword);
+    read(k(), 0x84);
     show::text(b"\n");
 }
 
-fn cases() {
-    case_1();
-    cases_2_and_3(k());
-    cases_4_and_5(k());
-    case_6();
-    case_7();
-    cases_8_and_9();
-    case_10();
-    case_11();
-    case_12();
-}
-
 fn main() {
-    cases();
+    cases_1_to_5();
+    cases_6_to_9();
+    cases_10_and_11();
+    case_12();
     run_also();
     lessons::run();
 }

@@ -1,8 +1,10 @@
 // What a call answered, as words.
-use distributor::access::ReadAnswer;
-use distributor::access::WriteAnswer;
 use identifiers::error::Refusal;
 use libc::STDOUT_FILENO;
+use registers::answer::ReadAnswer;
+use registers::answer::WriteAnswer;
+use spi::question::QuestionAnswer;
+use spi::question::Value;
 
 pub fn text(words: &[u8]) {
     io::write_all(STDOUT_FILENO, words);
@@ -33,7 +35,7 @@ pub fn refusal(refusal: Refusal) {
 
 pub fn read(answer: ReadAnswer) {
     match answer {
-        ReadAnswer::Value(v) => {
+        ReadAnswer::Done(v) => {
             text(b" 0x");
             io::print_hex(STDOUT_FILENO, v, 1);
         }
@@ -43,10 +45,25 @@ pub fn read(answer: ReadAnswer) {
 
 pub fn written(answer: WriteAnswer) {
     match answer {
-        WriteAnswer::Listed(n) => {
+        WriteAnswer::Done(n) => {
             text(b" done, lists ");
             decimal(n as u64);
         }
         WriteAnswer::Refused(f) => refusal(f),
+    }
+}
+
+// The examples ask for flags alone.
+pub fn answer(answer: QuestionAnswer) {
+    match answer {
+        QuestionAnswer::Done(value) => flag(value),
+        QuestionAnswer::Refused(f) => refusal(f),
+    }
+}
+
+fn flag(value: Value) {
+    if let Value::Flag(on) = value {
+        text(b" ");
+        decimal(on as u64);
     }
 }

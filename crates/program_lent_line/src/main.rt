@@ -47,7 +47,7 @@ fn print_record(when: &[u8], r: InterruptRecord) {
 }
 
 fn main() {
-    let IntIdAnswer::Made(intid) = IntId::new(33) else {
+    let IntIdAnswer::Done(intid) = IntId::new(33) else {
         return;
     };
     let start = handled(intid);

@@ -9,7 +9,7 @@ use operation::hidden::inflight;
 use operation::hidden::line;
 use operation::hidden::redelivery;
 ghost use mathlib.Core.Path.{_≡_};
-ghost use Rattle.identifiers.specs.State.{levelOf};
+ghost use Rattle.identifiers.specs.States.{levelOf};
 
 // How many combinations there are.
 pub const COUNT: u32 = 128;
@@ -61,7 +61,7 @@ impl Flags {
         } else {
             TriggerMode::Edge
         };
-        let mut irq = InterruptRecord::new(IntId::Spi(SpiId::FIRST), trigger).set_level(self.line);
+        let mut irq = InterruptRecord::new(IntId::Spi(SpiId::nth(0)), trigger).set_level(self.line);
         if self.inflight {
             irq = irq.mark_inflight();
         }

@@ -1,25 +1,24 @@
 // A record's life, walked: from each combination of flags that a record can have, where each operation leads. A line reads
-// `from: operation: to`; what is printed is held to the file stdout beside src/, and docs/life draws docs/life.svg from it. Where an
-// operation leads rests on the flags and the trigger alone (`flags-after` in crates/operation/specs/Laws.antt), so one record stands
+// `from: operation: to`; what is printed is held to the file stdout beside src/, and tools/life draws docs/life.svg from it. Where an
+// operation leads rests on the flags and the trigger alone (`flags-after` and `synchronized-flags` in crates/operation/specs/Laws.antt), so one record stands
 // for all that have its combination.
 mod flags;
 mod operations;
 
 use crate::flags::Flags;
 use interrupt::interrupt::InterruptRecord;
-use operation::operation::apply;
 
 // Every combination with every operation.
 const STEPS: u32 = flags::COUNT * operations::COUNT;
 
 // One operation on the record.
 fn step(from: InterruptRecord, k: u32) {
-    let operation = operations::nth(k);
+    let action = operations::nth(k);
     flags::show(Flags::of(from));
     flags::text(b": ");
-    operations::show(operation);
+    action.show();
     flags::text(b": ");
-    flags::show(Flags::of(apply(from, operation)));
+    flags::show(Flags::of(action.on(from)));
     flags::text(b"\n");
 }
 

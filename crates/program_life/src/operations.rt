@@ -1,15 +1,57 @@
-// The operations with their arguments. The settings' arguments are one example each: no flag rests on them.
+// What can happen to a record, with its arguments. The settings' arguments are one example each: no flag rests on them.
 use crate::flags::text;
 use identifiers::types::GicAffinity;
 use identifiers::types::InterruptState;
 use identifiers::types::Priority;
 use identifiers::types::TriggerMode;
+use interrupt::interrupt::InterruptRecord;
 use operation::operation::Operation;
+use operation::operation::apply;
 
 // How many there are.
 pub const COUNT: u32 = 30;
 
-pub fn nth(k: u32) -> Operation {
+// A named operation, or one of the two that are none.
+pub enum Action {
+    Operate(Operation),
+    SynchronizeInflight(InterruptState),
+    SetCpuTargetMask(u8),
+}
+
+impl Action {
+    pub fn on(self, interrupt: InterruptRecord) -> InterruptRecord {
+        match self {
+            Action::Operate(operation) => apply(interrupt, operation),
+            Action::SynchronizeInflight(state) => {
+                let s = interrupt.synchronize_inflight(state);
+                s.interrupt
+            }
+            Action::SetCpuTargetMask(mask) => interrupt.set_cpu_target_mask(mask),
+        }
+    }
+
+    // By its name in the code, and with its argument where a flag may rest on it.
+    pub fn show(self) {
+        match self {
+            Action::Operate(operation) => show(operation),
+            Action::SynchronizeInflight(s) => state(b"synchronize_inflight", s),
+            Action::SetCpuTargetMask(_) => text(b"set_cpu_target_mask"),
+        }
+    }
+}
+
+pub fn nth(k: u32) -> Action {
+    match k {
+        12 => Action::SynchronizeInflight(InterruptState::Inactive),
+        13 => Action::SynchronizeInflight(InterruptState::Pending),
+        14 => Action::SynchronizeInflight(InterruptState::Active),
+        15 => Action::SynchronizeInflight(InterruptState::ActivePending),
+        25 => Action::SetCpuTargetMask(1),
+        _ => Action::Operate(operation(k)),
+    }
+}
+
+fn operation(k: u32) -> Operation {
     match k {
         0 => Operation::SetEnabled(false),
         1 => Operation::SetEnabled(true),
@@ -23,10 +65,6 @@ pub fn nth(k: u32) -> Operation {
         9 => Operation::SetState(InterruptState::ActivePending),
         10 => Operation::ClearDeliveryState,
         11 => Operation::MarkInflight,
-        12 => Operation::SynchronizeInflight(InterruptState::Inactive),
-        13 => Operation::SynchronizeInflight(InterruptState::Pending),
-        14 => Operation::SynchronizeInflight(InterruptState::Active),
-        15 => Operation::SynchronizeInflight(InterruptState::ActivePending),
         16 => Operation::CancelInflight,
         17 => Operation::FinishInflight,
         18 => Operation::DeactivateInflight(false),
@@ -36,7 +74,6 @@ pub fn nth(k: u32) -> Operation {
         22 => Operation::SetTrigger(TriggerMode::Edge),
         23 => Operation::SetRoute(GicAffinity::new(0, 0, 0, 1)),
         24 => Operation::ClearRoute,
-        25 => Operation::SetCpuTargetMask(1),
         26 => Operation::SetLevel(false),
         27 => Operation::SetLevel(true),
         28 => Operation::Pulse,
@@ -70,8 +107,7 @@ fn trigger(trigger: TriggerMode) {
     }
 }
 
-// The operation by its name in the code, and its argument where a flag may rest on it.
-pub fn show(operation: Operation) {
+fn show(operation: Operation) {
     match operation {
         Operation::SetEnabled(on) => flag(b"set_enabled", on),
         Operation::SetPending(on) => flag(b"set_pending", on),
@@ -79,7 +115,6 @@ pub fn show(operation: Operation) {
         Operation::SetState(s) => state(b"set_state", s),
         Operation::ClearDeliveryState => text(b"clear_delivery_state"),
         Operation::MarkInflight => text(b"mark_inflight"),
-        Operation::SynchronizeInflight(s) => state(b"synchronize_inflight", s),
         Operation::CancelInflight => text(b"cancel_inflight"),
         Operation::FinishInflight => text(b"finish_inflight"),
         Operation::DeactivateInflight(pending) => flag(b"deactivate_inflight", pending),
@@ -87,7 +122,6 @@ pub fn show(operation: Operation) {
         Operation::SetTrigger(t) => trigger(t),
         Operation::SetRoute(_) => text(b"set_route"),
         Operation::ClearRoute => text(b"clear_route"),
-        Operation::SetCpuTargetMask(_) => text(b"set_cpu_target_mask"),
         Operation::SetLevel(high) => flag(b"set_level", high),
         Operation::Pulse => text(b"pulse"),
         Operation::Complete => text(b"complete"),

@@ -1,8 +1,6 @@
 pub mod Registers
-pub mod Ownership
-pub mod Places
-pub mod Identity
-pub mod IdentityLaws
+pub mod Answers
+pub mod MapRows
 pub mod MapLaws
 pub mod WidthLaws
-pub mod PlaceAnswers
+pub mod AnswerLaws

@@ -11,10 +11,13 @@ use lib.Dec.{leb}
 use lib.ListN.{getD}
 use Rattle.theory.specs.Bools.{both, either, refuted}
 use Rattle.identifiers.specs.Answer.{within}
-use Rattle.theory.specs.PlaceLaws.{everywhere}
+use Rattle.theory.specs.ListLaws.{everywhere}
 use Rattle.registers.specs.declared.register.AccessWidth.the-variants.{Byte, Dword, Qword}
 use Rattle.bank.specs.declared.bank.Bank.{Bank}
-use Rattle.bank.specs.declared.bank.Bank.the-variants.{Igroupr, Isenabler, Icenabler, Ispendr, Icpendr, Isactiver, Icactiver, Ipriorityr, Icfgr, Irouter}
+use Rattle.bank.specs.declared.bank.Bank.the-variants.{Set, Clear, Replace}
+use Rattle.bank.specs.declared.bank.Flag.the-variants.{Enabled, Pending, Active}
+use Rattle.bank.specs.declared.bank.Field.{Field}
+use Rattle.bank.specs.declared.bank.Field.the-variants.{Group, Priority, Configuration}
 use Rattle.registers.specs.declared.register.Register.the-variants.{Fields}
 use Rattle.registers.specs.declared.register.Access.the-variants.{To}
 use Rattle.registers.specs.declared.register.Direction.{Direction}
@@ -82,22 +85,22 @@ one-register o = one-holder map o refl
 
 -- the seven flag banks follow each other from 0x80 on, 32 words each, a bit for each INTID
 abbrev pub flagBank : ℕ → Bank
-flagBank j = getD (Igroupr ∷ Isenabler ∷ Icenabler ∷ Ispendr ∷ Icpendr ∷ Isactiver ∷ Icactiver ∷ []) j Igroupr
+flagBank j = getD ((Replace Group) ∷ (Set Enabled) ∷ (Clear Enabled) ∷ (Set Pending) ∷ (Clear Pending) ∷ (Set Active) ∷ (Clear Active) ∷ []) j (Replace Group)
 
 pub flag-intids : (d : Direction) (k : ℕ) → k < 224 → lookup d map (0x80 + 4 * k) Dword ≡ To (Fields (flagBank (k / 32)) (32 * (k % 32)) 32)
 flag-intids Reading = everywhere (λ k. lookup Reading map (0x80 + 4 * k) Dword) (λ k. To (Fields (flagBank (k / 32)) (32 * (k % 32)) 32)) 224 refl
 flag-intids Writing = everywhere (λ k. lookup Writing map (0x80 + 4 * k) Dword) (λ k. To (Fields (flagBank (k / 32)) (32 * (k % 32)) 32)) 224 refl
 
 -- IPRIORITYR has a byte, and IROUTER eight, for each INTID
-pub ipriorityr-intids : (d : Direction) (i : ℕ) → i < 1020 → lookup d map (0x400 + i) Byte ≡ To (Fields Ipriorityr i 1)
-ipriorityr-intids Reading = everywhere (λ i. lookup Reading map (0x400 + i) Byte) (λ i. To (Fields Ipriorityr i 1)) 1020 refl
-ipriorityr-intids Writing = everywhere (λ i. lookup Writing map (0x400 + i) Byte) (λ i. To (Fields Ipriorityr i 1)) 1020 refl
+pub ipriorityr-intids : (d : Direction) (i : ℕ) → i < 1020 → lookup d map (0x400 + i) Byte ≡ To (Fields (Replace Priority) i 1)
+ipriorityr-intids Reading = everywhere (λ i. lookup Reading map (0x400 + i) Byte) (λ i. To (Fields (Replace Priority) i 1)) 1020 refl
+ipriorityr-intids Writing = everywhere (λ i. lookup Writing map (0x400 + i) Byte) (λ i. To (Fields (Replace Priority) i 1)) 1020 refl
 
-pub irouter-intids : (d : Direction) (i : ℕ) → i < 1020 → lookup d map (0x6000 + 8 * i) Qword ≡ To (Fields Irouter i 1)
-irouter-intids Reading = everywhere (λ i. lookup Reading map (0x6000 + 8 * i) Qword) (λ i. To (Fields Irouter i 1)) 1020 refl
-irouter-intids Writing = everywhere (λ i. lookup Writing map (0x6000 + 8 * i) Qword) (λ i. To (Fields Irouter i 1)) 1020 refl
+pub irouter-intids : (d : Direction) (i : ℕ) → i < 1020 → lookup d map (0x6000 + 8 * i) Qword ≡ To (Fields (Replace Field.Route) i 1)
+irouter-intids Reading = everywhere (λ i. lookup Reading map (0x6000 + 8 * i) Qword) (λ i. To (Fields (Replace Field.Route) i 1)) 1020 refl
+irouter-intids Writing = everywhere (λ i. lookup Writing map (0x6000 + 8 * i) Qword) (λ i. To (Fields (Replace Field.Route) i 1)) 1020 refl
 
 -- ICFGR has 64 words, two bits for each INTID
-pub icfgr-intids : (d : Direction) (k : ℕ) → k < 64 → lookup d map (0xc00 + 4 * k) Dword ≡ To (Fields Icfgr (16 * k) 16)
-icfgr-intids Reading = everywhere (λ k. lookup Reading map (0xc00 + 4 * k) Dword) (λ k. To (Fields Icfgr (16 * k) 16)) 64 refl
-icfgr-intids Writing = everywhere (λ k. lookup Writing map (0xc00 + 4 * k) Dword) (λ k. To (Fields Icfgr (16 * k) 16)) 64 refl
+pub icfgr-intids : (d : Direction) (k : ℕ) → k < 64 → lookup d map (0xc00 + 4 * k) Dword ≡ To (Fields (Replace Configuration) (16 * k) 16)
+icfgr-intids Reading = everywhere (λ k. lookup Reading map (0xc00 + 4 * k) Dword) (λ k. To (Fields (Replace Configuration) (16 * k) 16)) 64 refl
+icfgr-intids Writing = everywhere (λ k. lookup Writing map (0xc00 + 4 * k) Dword) (λ k. To (Fields (Replace Configuration) (16 * k) 16)) 64 refl

@@ -1,12 +1,12 @@
 -- The register map, and how an access is decoded: refused 3 or 4, or a register. Offsets and widths are those of Arm's
 -- specification (IHI 0069), as docs/DIFFERENCES.md amends it.
-use Prim.Native.Nat.{ℕ, _+_, _-_, _*_, _/_, _%_, _≤_, _<_}
+use Prim.Native.Nat.{ℕ, _+_, _-_, _*_, _/_, _%_}
 use mathlib.Core.Bool.{Bool, true, _&&_, cond}
 use mathlib.Core.List.{List, [], _∷_}
-use lib.Dec.{leb, eqb}
+use lib.Dec.{leb, ltb, eqb}
 use Rattle.bank.specs.Banks.{bitsOf}
 use Rattle.identifiers.specs.Answer.{within}
-use Rattle.identifiers.specs.declared.error.Refusal.the-variants.{InvalidAccess, InvalidWidth}
+use Rattle.identifiers.specs.declared.error.Refusal.the-variants.{InvalidAccess, InvalidWidth, ShortList}
 use Rattle.registers.specs.declared.register.AccessWidth.{AccessWidth}
 use Rattle.registers.specs.declared.register.AccessWidth.the-variants.{Byte, Word, Dword, Qword}
 use Rattle.registers.specs.declared.register.Direction.{Direction}
@@ -16,7 +16,10 @@ use Rattle.registers.specs.declared.register.Widths.the-variants.{Just, 
 use Rattle.registers.specs.declared.register.Kind.{Kind}
 use Rattle.registers.specs.declared.register.Row.{Row}
 use Rattle.bank.specs.declared.bank.Bank.{Bank}
-use Rattle.bank.specs.declared.bank.Bank.the-variants.{Igroupr, Isenabler, Icenabler, Ispendr, Icpendr, Isactiver, Icactiver, Ipriorityr, Icfgr, Irouter}
+use Rattle.bank.specs.declared.bank.Bank.the-variants.{Set, Clear, Replace}
+use Rattle.bank.specs.declared.bank.Flag.the-variants.{Enabled, Pending, Active}
+use Rattle.bank.specs.declared.bank.Field.{Field}
+use Rattle.bank.specs.declared.bank.Field.the-variants.{Group, Priority, Configuration}
 use Rattle.registers.specs.declared.register.Register.{Register}
 use Rattle.registers.specs.declared.register.Register.the-variants.{Identification, Ctlr, Typer, Iidr, Fields, Reserved}
 use Rattle.registers.specs.declared.register.Access.{Access}
@@ -43,21 +46,17 @@ map =
     ∷ row 0x0000 0x0001 1 (Just Dword) (Just Dword) Kind.Ctlr
     ∷ row 0x0004 0x0005 1 (Just Dword) Any Kind.Typer
     ∷ row 0x0008 0x0009 1 (Just Dword) Any Kind.Iidr
-    ∷ row 0x0080 0x0100 4 (Just Dword) Any (Kind.Bank Igroupr)
-    ∷ row 0x0100 0x0180 4 (Just Dword) (Just Dword) (Kind.Bank Isenabler)
-    ∷ row 0x0180 0x0200 4 (Just Dword) (Just Dword) (Kind.Bank Icenabler)
-    ∷ row 0x0200 0x0280 4 (Just Dword) (Just Dword) (Kind.Bank Ispendr)
-    ∷ row 0x0280 0x0300 4 (Just Dword) (Just Dword) (Kind.Bank Icpendr)
-    ∷ row 0x0300 0x0380 4 (Just Dword) (Just Dword) (Kind.Bank Isactiver)
-    ∷ row 0x0380 0x0400 4 (Just Dword) (Just Dword) (Kind.Bank Icactiver)
-    ∷ row 0x0400 0x07fc 1 Any Any (Kind.Bank Ipriorityr)
-    ∷ row 0x0c00 0x0d00 4 (Just Dword) (Just Dword) (Kind.Bank Icfgr)
-    ∷ row 0x6000 0x7fe0 1 (Just Qword) (Just Qword) (Kind.Bank Irouter)
+    ∷ row 0x0080 0x0100 4 (Just Dword) Any (Kind.Bank (Replace Group))
+    ∷ row 0x0100 0x0180 4 (Just Dword) (Just Dword) (Kind.Bank (Set Enabled))
+    ∷ row 0x0180 0x0200 4 (Just Dword) (Just Dword) (Kind.Bank (Clear Enabled))
+    ∷ row 0x0200 0x0280 4 (Just Dword) (Just Dword) (Kind.Bank (Set Pending))
+    ∷ row 0x0280 0x0300 4 (Just Dword) (Just Dword) (Kind.Bank (Clear Pending))
+    ∷ row 0x0300 0x0380 4 (Just Dword) (Just Dword) (Kind.Bank (Set Active))
+    ∷ row 0x0380 0x0400 4 (Just Dword) (Just Dword) (Kind.Bank (Clear Active))
+    ∷ row 0x0400 0x07fc 1 Any Any (Kind.Bank (Replace Priority))
+    ∷ row 0x0c00 0x0d00 4 (Just Dword) (Just Dword) (Kind.Bank (Replace Configuration))
+    ∷ row 0x6000 0x7fe0 1 (Just Qword) (Just Qword) (Kind.Bank (Replace Field.Route))
     ∷ []
-
--- past the last row: a row that holds nothing
-abbrev pub noRow : Row
-noRow = row 0 0 1 Any Any Kind.Ctlr
 
 abbrev pub widthsOf : Direction → Row → Widths
 widthsOf Reading r = r .reads
@@ -96,11 +95,6 @@ lookup d (r ∷ rs) offset w = cond (holds r offset) (rowAccess d r offset w) (l
 unfoldable pub decode : Direction → ℕ → ℕ → AccessWidth → Access
 decode d frame offset w = cond (legal frame offset w) (lookup d map offset w) (Refused InvalidAccess)
 
--- what decoding promises of a register
-abbrev pub Bounded : Register → Type 0
-Bounded (Identification k) = Unit {0}
-Bounded Ctlr = Unit {0}
-Bounded Typer = Unit {0}
-Bounded Iidr = Unit {0}
-Bounded (Fields b lo m) = (lo < 0x10000) × (m ≤ 64) × (bitsOf b * m ≤ 64)
-Bounded Reserved = Unit {0}
+-- a write tests refusal 5 first: a lent list with fewer places than the table has SPIs
+abbrev pub writeAccess : ℕ → ℕ → ℕ → ℕ → AccessWidth → Access
+writeAccess places spis frame offset w = cond (ltb places spis) (Refused ShortList) (decode Writing frame offset w)

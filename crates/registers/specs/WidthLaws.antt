@@ -1,20 +1,18 @@
 -- What an access covers fits its width.
-use Prim.Native.Nat.{ℕ, zero, suc, _-_, _*_, _/_, _≤_, _<_}
+use Prim.Native.Nat.{ℕ, _-_, _*_, _/_, _≤_}
 use mathlib.Core.Path.{_≡_, refl, ap, subst}
 use mathlib.Core.Bool.{Bool, true, false, cond}
 use mathlib.Core.List.{List, [], _∷_}
-use native.Mathlib.Nat.{le-of-suc-le-suc, mul-comm, div-mul-le-self}
+use native.Mathlib.Nat.{mul-comm, div-mul-le-self}
 use native.Mathlib.Omega.{arith}
-use lib.Dec.{ltb}
-use lib.Pow.{areBytes}
-use borrow.Author.Tests.{ltb-true}
-use Rattle.theory.specs.Bools.{both}
-use lib.ListN.{length, getD}
 use Rattle.identifiers.specs.declared.error.Refusal.the-variants.{InvalidAccess, InvalidWidth}
 use Rattle.registers.specs.declared.register.AccessWidth.{AccessWidth}
 use Rattle.registers.specs.declared.register.AccessWidth.the-variants.{Byte, Word, Dword, Qword}
 use Rattle.bank.specs.declared.bank.Bank.{Bank}
-use Rattle.bank.specs.declared.bank.Bank.the-variants.{Igroupr, Isenabler, Icenabler, Ispendr, Icpendr, Isactiver, Icactiver, Ipriorityr, Icfgr, Irouter}
+use Rattle.bank.specs.declared.bank.Bank.the-variants.{Set, Clear, Replace}
+use Rattle.bank.specs.declared.bank.Flag.the-variants.{Enabled, Pending, Active}
+use Rattle.bank.specs.declared.bank.Field.{Field}
+use Rattle.bank.specs.declared.bank.Field.the-variants.{Group, Priority, Configuration}
 use Rattle.registers.specs.declared.register.Register.{Register}
 use Rattle.registers.specs.declared.register.Register.the-variants.{Identification, Ctlr, Typer, Iidr, Fields, Reserved}
 use Rattle.registers.specs.declared.register.Access.the-variants.{To, Refused}
@@ -25,7 +23,6 @@ use Rattle.registers.specs.declared.register.Row.{Row}
 use Rattle.registers.specs.declared.register.Widths.the-variants.{Just}
 use Rattle.bank.specs.Banks.{bitsOf}
 use Rattle.registers.specs.Registers.{bytesOf, takes, widthsOf, map, holds, registerAt, lookup, legal, decode}
-use Rattle.registers.specs.Identity.{componentId}
 
 -- ---- a register and the widths that reach it
 
@@ -66,24 +63,24 @@ sound-rows = (
       (
         (λ at w e. only-dword w e),
         (
-          (λ at w e. fields-fit Igroupr w),
+          (λ at w e. fields-fit (Replace Group) w),
           (
-            (λ at w e. fields-fit Isenabler w),
+            (λ at w e. fields-fit (Set Enabled) w),
             (
-              (λ at w e. fields-fit Icenabler w),
+              (λ at w e. fields-fit (Clear Enabled) w),
               (
-                (λ at w e. fields-fit Ispendr w),
+                (λ at w e. fields-fit (Set Pending) w),
                 (
-                  (λ at w e. fields-fit Icpendr w),
+                  (λ at w e. fields-fit (Clear Pending) w),
                   (
-                    (λ at w e. fields-fit Isactiver w),
+                    (λ at w e. fields-fit (Set Active) w),
                     (
-                      (λ at w e. fields-fit Icactiver w),
+                      (λ at w e. fields-fit (Clear Active) w),
                       (
-                        (λ at w e. fields-fit Ipriorityr w),
+                        (λ at w e. fields-fit (Replace Priority) w),
                         (
-                          (λ at w e. fields-fit Icfgr w),
-                          ((λ at w e. fields-fit Irouter w), tt),
+                          (λ at w e. fields-fit (Replace Configuration) w),
+                          ((λ at w e. fields-fit (Replace Field.Route) w), tt),
                         ),
                       ),
                     ),
@@ -149,22 +146,3 @@ decode-covers d frame o w b lo m e = go (legal frame o w) e
     go : (h : Bool) → cond h (lookup d map o w) (Refused InvalidAccess) ≡ To (Fields b lo m) → bitsOf b * m ≤ 8 * bytesOf w
     go true f = lookup-covers d map o w b lo m f
     go false f = let z : _≡_ {A = ℕ} 0 1 = cc in absurd (omega arith)
-
--- ---- identification
-
-pub id-fits : (k : ℕ) → getD componentId k 0 < 256
-id-fits = go componentId refl
-  where
-    go : (l : List ℕ) → areBytes l ≡ true → (k : ℕ) → getD l k 0 < 256
-    go [] e k = omega arith
-    go (x ∷ l) e zero = ltb-true x 256 (both (ltb x 256) _ e .0)
-    go (x ∷ l) e (suc k) = go l (both (ltb x 256) _ e .1) k
-
--- there are twelve
-pub past-end : (k : ℕ) → 12 ≤ k → 0 ≡ getD componentId k 0
-past-end k h = go componentId k h
-  where
-    go : (l : List ℕ) (j : ℕ) → length l ≤ j → 0 ≡ getD l j 0
-    go [] j h = refl
-    go (x ∷ l) zero h = absurd (omega arith)
-    go (x ∷ l) (suc j) h = go l j (le-of-suc-le-suc h)

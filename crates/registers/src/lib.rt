@@ -1,5 +1,3 @@
-// The registers of the Distributor: the map, the settings, what identifies it, and places in its table. No table is in here.
-pub mod controller;
-pub mod identity;
-pub mod place;
+// The register map, how an access is decoded, and what it answers. No table is in here.
+pub mod answer;
 pub mod register;

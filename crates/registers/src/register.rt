@@ -1,12 +1,15 @@
 // The registers of the Distributor's frame, by Arm's names, and how an access to the frame is decoded. The map is the same, row by
 // row, as the one in specs/Registers.antt.
 use bank::bank::Bank;
+use bank::bank::Field;
+use bank::bank::Flag;
 use identifiers::error::Refusal;
 ghost use mathlib.Core.Path.{_≡_};
 ghost use Prim.Native.Nat.{_+_, _*_, _/_, _≤_, _<_};
 ghost use lib.ListN.{getD};
 ghost use Rattle.bank.specs.Banks.{bitsOf};
-ghost use Rattle.registers.specs.Registers.{bytesOf, takes, row, noRow, map, widthsOf, legal, holds, registerAt, rowAccess, lookup, decode};
+ghost use Rattle.registers.specs.Registers.{bytesOf, takes, row, map, widthsOf, legal, holds, registerAt, rowAccess, lookup, decode, writeAccess};
+ghost use Rattle.registers.specs.MapRows.{noRow};
 
 // How many bytes an access covers: 1, 2, 4 or 8.
 pub enum AccessWidth {
@@ -188,16 +191,16 @@ fn map_row(k: usize) -> Row
         1 => Row::new(0x0000, 0x0001, 1, dword, dword, Kind::Ctlr),
         2 => Row::new(0x0004, 0x0005, 1, dword, any, Kind::Typer),
         3 => Row::new(0x0008, 0x0009, 1, dword, any, Kind::Iidr),
-        4 => Row::new(0x0080, 0x0100, 4, dword, any, Kind::Bank(Bank::Igroupr)),
-        5 => Row::new(0x0100, 0x0180, 4, dword, dword, Kind::Bank(Bank::Isenabler)),
-        6 => Row::new(0x0180, 0x0200, 4, dword, dword, Kind::Bank(Bank::Icenabler)),
-        7 => Row::new(0x0200, 0x0280, 4, dword, dword, Kind::Bank(Bank::Ispendr)),
-        8 => Row::new(0x0280, 0x0300, 4, dword, dword, Kind::Bank(Bank::Icpendr)),
-        9 => Row::new(0x0300, 0x0380, 4, dword, dword, Kind::Bank(Bank::Isactiver)),
-        10 => Row::new(0x0380, 0x0400, 4, dword, dword, Kind::Bank(Bank::Icactiver)),
-        11 => Row::new(0x0400, 0x07fc, 1, any, any, Kind::Bank(Bank::Ipriorityr)),
-        12 => Row::new(0x0c00, 0x0d00, 4, dword, dword, Kind::Bank(Bank::Icfgr)),
-        13 => Row::new(0x6000, 0x7fe0, 1, qword, qword, Kind::Bank(Bank::Irouter)),
+        4 => Row::new(0x0080, 0x0100, 4, dword, any, Kind::Bank(Bank::Replace(Field::Group))),
+        5 => Row::new(0x0100, 0x0180, 4, dword, dword, Kind::Bank(Bank::Set(Flag::Enabled))),
+        6 => Row::new(0x0180, 0x0200, 4, dword, dword, Kind::Bank(Bank::Clear(Flag::Enabled))),
+        7 => Row::new(0x0200, 0x0280, 4, dword, dword, Kind::Bank(Bank::Set(Flag::Pending))),
+        8 => Row::new(0x0280, 0x0300, 4, dword, dword, Kind::Bank(Bank::Clear(Flag::Pending))),
+        9 => Row::new(0x0300, 0x0380, 4, dword, dword, Kind::Bank(Bank::Set(Flag::Active))),
+        10 => Row::new(0x0380, 0x0400, 4, dword, dword, Kind::Bank(Bank::Clear(Flag::Active))),
+        11 => Row::new(0x0400, 0x07fc, 1, any, any, Kind::Bank(Bank::Replace(Field::Priority))),
+        12 => Row::new(0x0c00, 0x0d00, 4, dword, dword, Kind::Bank(Bank::Replace(Field::Configuration))),
+        13 => Row::new(0x6000, 0x7fe0, 1, qword, qword, Kind::Bank(Bank::Replace(Field::Route))),
         _ => Row::new(0, 0, 1, any, any, Kind::Ctlr),
     }
 }
@@ -225,5 +228,22 @@ pub fn decode(direction: Direction, frame: u64, offset: u64, width: AccessWidth)
         find(direction, offset, width)
     } else {
         Access::Refused(Refusal::InvalidAccess)
+    }
+}
+
+// What a write reaches. Refusal 5 comes first: a lent list with fewer places than the table has SPIs.
+pub fn write_access(
+    places: usize,
+    spis: u32,
+    frame: u64,
+    offset: u64,
+    width: AccessWidth,
+) -> Access
+    ensures { λ r. ⌜ r ≡ writeAccess places spis frame offset width ⌝ }
+{
+    if places < spis as usize {
+        Access::Refused(Refusal::ShortList)
+    } else {
+        decode(Direction::Writing, frame, offset, width)
     }
 }

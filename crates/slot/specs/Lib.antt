@@ -1,5 +1,4 @@
 pub mod Slots
+pub mod NoSlot
 pub mod BankRule
-pub mod Changes
 pub mod BankRuleLaws
-pub mod ChangeLaws

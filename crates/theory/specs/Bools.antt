@@ -2,6 +2,9 @@
 use mathlib.Core.Path.{_≡_, refl}
 use mathlib.Core.Logic.{_⊎_, inl, inr}
 use mathlib.Core.Bool.{Bool, true, false, _&&_, _||_, false≢true}
+use mir.Val.{boolByte}
+use native.Mathlib.Omega.{arith}
+use Prim.Native.Nat.{_<_}
 
 pub both : (a b : Bool) → (a && b) ≡ true → (a ≡ true) × (b ≡ true)
 both true b e = (refl, e)
@@ -15,3 +18,8 @@ either false b e = inr e
 pub refuted : (b : Bool) → (b ≡ true → ⊥) → b ≡ false
 refuted true h = absurd (h refl)
 refuted false h = refl
+
+-- a flag as a number
+pub bit-fits : (b : Bool) → boolByte b < 2
+bit-fits true = omega arith
+bit-fits false = omega arith

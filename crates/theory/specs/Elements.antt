@@ -6,7 +6,7 @@ use mathlib.Core.Option.{Option, some, Option·map, Option·none-ne-some, Option
 use native.Mathlib.Nat.{zero-lt-suc}
 use native.Mathlib.Omega.{arith}
 use lib.ListN.{length, getD, getElem?}
-use Rattle.theory.specs.Places.{mapFrom, mapAt, tabulate}
+use Rattle.theory.specs.Lists.{mapFrom, mapAt, tabulate}
 
 module _ {A : Type 0} where
   pub at-some : (l : List A) (i : ℕ) (x : A) → getElem? l i ≡ some x → i < length l

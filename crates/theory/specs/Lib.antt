@@ -1,7 +1,7 @@
 pub mod Bools
-pub mod Places
-pub mod PlaceLaws
-pub mod MapLaws
+pub mod Lists
+pub mod ListLaws
+pub mod MapAtLaws
 pub mod Elements
 pub mod Runs
 pub mod Reorder

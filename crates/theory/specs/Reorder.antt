@@ -13,10 +13,10 @@ use Rattle.theory.specs.Elements.{at-some}
 
 -- ---- a place is taken out of a list
 
-abbrev cut : {A : Type 0} → ℕ → List A → List A
-cut k [] = []
-cut zero (y ∷ ys) = ys
-cut (suc k) (y ∷ ys) = y ∷ cut k ys
+abbrev without : {A : Type 0} → ℕ → List A → List A
+without k [] = []
+without zero (y ∷ ys) = ys
+without (suc k) (y ∷ ys) = y ∷ without k ys
 
 -- the place in the whole list of what stands at j once the place k is out
 abbrev skip : ℕ → ℕ → ℕ
@@ -69,16 +69,16 @@ close-order (suc k) zero (suc n) p q h = zero-lt-suc _
 close-order (suc k) (suc m) zero p q h = absurd (not-suc-le-zero h)
 close-order (suc k) (suc m) (suc n) p q h = suc-le-suc (close-order k m n (λ e. p (ap suc e)) (λ e. q (ap suc e)) (le-of-suc-le-suc h))
 
-at-cut : {A : Type 0} (k : ℕ) (ys : List A) (j : ℕ) → getElem? (cut k ys) j ≡ getElem? ys (skip k j)
-at-cut k [] j = refl
-at-cut zero (y ∷ ys) j = refl
-at-cut (suc k) (y ∷ ys) zero = refl
-at-cut (suc k) (y ∷ ys) (suc j) = at-cut k ys j
+at-without : {A : Type 0} (k : ℕ) (ys : List A) (j : ℕ) → getElem? (without k ys) j ≡ getElem? ys (skip k j)
+at-without k [] j = refl
+at-without zero (y ∷ ys) j = refl
+at-without (suc k) (y ∷ ys) zero = refl
+at-without (suc k) (y ∷ ys) (suc j) = at-without k ys j
 
-length-cut : {A : Type 0} (k : ℕ) (ys : List A) → k < length ys → length ys ≡ suc (length (cut k ys))
-length-cut k [] h = absurd (not-suc-le-zero h)
-length-cut zero (y ∷ ys) h = refl
-length-cut (suc k) (y ∷ ys) h = ap suc (length-cut k ys (le-of-suc-le-suc h))
+length-without : {A : Type 0} (k : ℕ) (ys : List A) → k < length ys → length ys ≡ suc (length (without k ys))
+length-without k [] h = absurd (not-suc-le-zero h)
+length-without zero (y ∷ ys) h = refl
+length-without (suc k) (y ∷ ys) h = ap suc (length-without k ys (le-of-suc-le-suc h))
 
 -- ---- a matching is taken apart
 
@@ -110,13 +110,13 @@ module _ {Call Name : Type 0} (names : Call → Name → Bool) (x : Call) (xs ys
       omega arith
 
   -- without the first call of xs, in both lists, it is a matching again
-  rest-of : Matching names xs (cut place ys)
+  rest-of : Matching names xs (without place ys)
   rest-of =
       record {
         to = λ i. close place (m .to (suc i));
         from = λ j. pred (m .from (skip place j));
         to-in = λ i h.
-            let e = length-cut place ys place-in in
+            let e = length-without place ys place-in in
             let p = m .to-in (suc i) (suc-le-suc h) in
             let q = place-in in
             close-in place (m .to (suc i)) _ (other-place i h) (omega arith) (omega arith);
@@ -126,16 +126,16 @@ module _ {Call Name : Type 0} (names : Call → Name → Bool) (x : Call) (xs ys
             let e : suc (pred (m .from (skip place j))) ≡ m .from (skip place j) = (let q = source j h in omega arith) in
             ap (λ (i : ℕ). close place (m .to i)) e ∙ ap (close place) (m .to-from (skip place j) (skipped j h)) ∙ close-skip place j;
         same = λ i h.
-            at-cut place ys (close place (m .to (suc i))) ∙ ap (getElem? ys) (skip-close place (m .to (suc i)) (other-place i h)) ∙ m .same (suc i) (suc-le-suc h);
+            at-without place ys (close place (m .to (suc i))) ∙ ap (getElem? ys) (skip-close place (m .to (suc i)) (other-place i h)) ∙ m .same (suc i) (suc-le-suc h);
         kept = λ i j k l p q w h.
             close-order place (m .to (suc i)) (m .to (suc j)) (other-place i (at-some xs i k p)) (other-place j (at-some xs j l q))
             (m .kept (suc i) (suc j) k l p q w (suc-le-suc h));
       }
     where
-      skipped : (j : ℕ) → j < length (cut place ys) → skip place j < length ys
-      skipped j h = let e = length-cut place ys place-in in let p = skip-in place j _ h in omega arith
+      skipped : (j : ℕ) → j < length (without place ys) → skip place j < length ys
+      skipped j h = let e = length-without place ys place-in in let p = skip-in place j _ h in omega arith
 
-      source : (j : ℕ) → j < length (cut place ys) → m .from (skip place j) ≢ 0
+      source : (j : ℕ) → j < length (without place ys) → m .from (skip place j) ≢ 0
       source j h = other-source (skip place j) (skipped j h) (skip-other place j)
 
 -- ---- the reordering theorem
@@ -149,9 +149,9 @@ module _ {Call Name State Answer : Type 0} (names : Call → Name → Bool) (ste
 
   -- the call x at the place p of ys might as well come first
   record Fronted (x : Call) (p : ℕ) (ys : List Call) (s : State) : Type 0 where
-    state : run step ys s ≡ run step (cut p ys) (step x s)
+    state : run step ys s ≡ run step (without p ys) (step x s)
     own : getElem? (answers step answer ys s) p ≡ some (answer x s)
-    others : (j : ℕ) → getElem? (answers step answer ys s) (skip p j) ≡ getElem? (answers step answer (cut p ys) (step x s)) j
+    others : (j : ℕ) → getElem? (answers step answer ys s) (skip p j) ≡ getElem? (answers step answer (without p ys) (step x s)) j
 
   module _ (Ok : State → Type 0) (keeps : (k : Call) (s : State) → Ok s → Ok (step k s))
       (commute : (k l : Call) → ¬ Share names k l → (s : State) → Ok s → Commutes k l s) where
@@ -169,11 +169,11 @@ module _ {Call Name State Answer : Type 0} (names : Call → Name → Bool) (ste
         let swap : Commutes x y s = commute x y (far 0 y (zero-lt-suc p) refl) s ok in
         let rest : Fronted x p ys (step y s) = front x p ys (step y s) (keeps y s ok) e (λ j l h. far (suc j) l (suc-le-suc h)) in
         record {
-          state = rest .state ∙ ap (run step (cut p ys)) (swap .state);
+          state = rest .state ∙ ap (run step (without p ys)) (swap .state);
           own = rest .own ∙ ap {B = Option Answer} some (swap .first);
           others = elim [
             | zero ↦ ap {B = Option Answer} some (sym (swap .second))
-            | suc j ↦ rest .others j ∙ ap (λ (t : State). getElem? (answers step answer (cut p ys) t) j) (swap .state)
+            | suc j ↦ rest .others j ∙ ap (λ (t : State). getElem? (answers step answer (without p ys) t) j) (swap .state)
           ];
         }
 
@@ -188,7 +188,7 @@ module _ {Call Name State Answer : Type 0} (names : Call → Name → Bool) (ste
     reordering (x ∷ xs) ys m s ok =
         let p : ℕ = m .to 0 in
         let f : Fronted x p ys s = front x p ys s ok (m .same 0 (zero-lt-suc _)) (ahead names x xs ys m) in
-        let (states, given) = reordering xs (cut p ys) (rest-of names x xs ys m) (step x s) (keeps x s ok) in (
+        let (states, given) = reordering xs (without p ys) (rest-of names x xs ys m) (step x s) (keeps x s ok) in (
           states ∙ sym (f .state),
           elim [
             | zero ↦ λ h. sym (f .own)

@@ -6,8 +6,8 @@ use native.Mathlib.Nat.{pow-zero, div-one}
 use native.Mathlib.Omega.{arith}
 use Rattle.bank.specs.Banks.{bitsOf}
 use Rattle.theory.specs.Bools.{both}
-use Rattle.theory.specs.Places.{passing}
-use Rattle.bank.specs.Banks.{refusedOver, lowest}
+use Rattle.theory.specs.Lists.{passing}
+use Rattle.bank.specs.Banks.{refusedOver, firstOf}
 use Rattle.bank.proofs.Refusing.{beyond-small, refuses, none-more, first-found}
 use Rattle.bank.proofs.Digits.{used}
 use Rattle.bank.proofs.bank.first_beyond.Statement.{statement}
@@ -29,8 +29,8 @@ cast-i c = omega arith
 add-i : tie.Need-add-i Inv-loop μ-loop
 add-i c = omega arith
 
-lowest-requires : tie.Need-lowest-requires Inv-loop μ-loop
-lowest-requires c κs = tt
+low-field-requires : tie.Need-low-field-requires Inv-loop μ-loop
+low-field-requires c κs = tt
 
 write-refuses-requires : tie.Need-write-refuses-requires Inv-loop μ-loop
 write-refuses-requires c κs = tt
@@ -55,8 +55,8 @@ returns c =
     let a = il .before .before .args in
     let t = refusedOver (a .explicit) (a .n) (a .bank) (a .value) (a .lo) in
     let on =
-    refuses (a .bank) (a .value) (a .lo) (l .j) (l .v) (lw .lowest .result) (a .n) (a .explicit) (wr .write-refuses .result) (ib .is-beyond .result)
-    (l .inv .1) (lw .lowest .ensures) (wr .write-refuses .ensures) (ib .is-beyond .ensures) in
+    refuses (a .bank) (a .value) (a .lo) (l .j) (l .v) (lw .low-field .result) (a .n) (a .explicit) (wr .write-refuses .result) (ib .is-beyond .result)
+    (l .inv .1) (lw .low-field .ensures) (wr .write-refuses .ensures) (ib .is-beyond .ensures) in
     sym (first-found t (a .lo) (l .j) (l .inv .2) (a .m) (il .loop-test .taken) (sym on ∙ c .if1 .taken))
 
 above-requires : tie.Need-above-requires Inv-loop μ-loop
@@ -78,8 +78,8 @@ loop-again c =
     let a = il .before .before .args in
     let t = refusedOver (a .explicit) (a .n) (a .bank) (a .value) (a .lo) in
     let on =
-    refuses (a .bank) (a .value) (a .lo) (l .j) (l .v) (lw .lowest .result) (a .n) (a .explicit) (wr .write-refuses .result) (ib .is-beyond .result)
-    (l .inv .1) (lw .lowest .ensures) (wr .write-refuses .ensures) (ib .is-beyond .ensures) in (
+    refuses (a .bank) (a .value) (a .lo) (l .j) (l .v) (lw .low-field .result) (a .n) (a .explicit) (wr .write-refuses .result) (ib .is-beyond .result)
+    (l .inv .1) (lw .low-field .ensures) (wr .write-refuses .ensures) (ib .is-beyond .ensures) in (
       omega (arith, il .loop-test .taken),
       c .above .ensures ∙ used (2 ^ bitsOf (a .bank)) (a .value) (l .v) (l .j) (l .inv .1),
       none-more t (a .lo) (l .j) (l .inv .2) (sym on ∙ c .before .if1 .left),
@@ -89,7 +89,7 @@ returns-2 : tie.Need-returns-2 Inv-loop μ-loop
 returns-2 c =
     let z : c .before .loop .j ≡ c .before .before .args .m = omega arith in
     let e = rw z at (c .before .loop .inv .2) in
-    sym (ap lowest e)
+    sym (ap firstOf e)
 
 pub first-beyond-spec : {M : Type 1} → statement M
 first-beyond-spec =
@@ -100,7 +100,7 @@ first-beyond-spec =
     loop-holds
     cast-i
     add-i
-    lowest-requires
+    low-field-requires
     write-refuses-requires
     is-beyond-requires
     cast-t15

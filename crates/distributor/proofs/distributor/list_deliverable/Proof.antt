@@ -1,89 +1,109 @@
--- `list_deliverable` meets its contract: the deliverable records of the first j places are listed.
-use Prim.Native.Nat.{ℕ, _+_, _-_, _≤_}
+-- `list_deliverable` meets its contract: the deliverable SPIs below INTID i are listed.
+use Prim.Native.Nat.{ℕ, _+_, _-_, _≤_, _<_}
 use mathlib.Core.Path.{_≡_, refl, sym, ap, _∙_}
 use native.Mathlib.Omega.{arith}
 use denote.Ref.{now}
-use Rattle.theory.specs.Places.{passing}
-use Rattle.distributor.specs.Calls.{size, deliverableAt}
-use Rattle.distributor.specs.Loops.{Told}
-use Rattle.distributor.proofs.Listing.{told-size, told-room, told-more, turns-fit, at-place}
+use Rattle.theory.specs.Lists.{passing}
+use Rattle.place.specs.Table.{tableSize}
+use Rattle.model.specs.Calls.{deliverableAt}
+use Rattle.distributor.specs.Loops.{Lists}
+use Rattle.distributor.proofs.Listing.{list-size, list-room, list-more, turns-fit, deliverable-at}
 use Rattle.distributor.proofs.distributor.list_deliverable.Statement.{statement}
 use Rattle.distributor.proofs.distributor.list_deliverable.Tie as tie
 
 abbrev Inv-loop : tie.InvT-loop
-Inv-loop list₀ d n count₀ j₀ list count j = (j ≤ n) × Told (passing (deliverableAt (d .slots)) 32 j) list₀ list count
+Inv-loop list₀ d end count₀ i₀ list count i =
+    (32 ≤ i) × (i ≤ 32 + tableSize (d .«spi_count»)) × Lists (passing (deliverableAt (d .slots)) 32 (i - 32)) list₀ list count
 
 abbrev μ-loop : tie.MeasureT-loop
-μ-loop list₀ d n count₀ j₀ list count j = n - j
+μ-loop list₀ d end count₀ i₀ list count i = end - i
 
 size-requires : tie.Need-size-requires Inv-loop μ-loop
 size-requires c κs = tt
 
-loop-holds : tie.Need-loop-holds Inv-loop μ-loop
-loop-holds c = (omega arith, (refl, refl))
+add-end : tie.Need-add-end Inv-loop μ-loop
+add-end c = omega (arith, c .size .ensures)
 
-cast-p : tie.Need-cast-p Inv-loop μ-loop
-cast-p c = omega (arith, c .before .before .size .ensures)
+loop-holds : tie.Need-loop-holds Inv-loop μ-loop
+loop-holds c = (omega arith, omega arith, (refl, refl))
+
+of-requires : tie.Need-of-requires Inv-loop μ-loop
+of-requires c κs = tt
+
+index-requires : tie.Need-index-requires Inv-loop μ-loop
+index-requires c κs = tt
 
 mul-s : tie.Need-mul-s Inv-loop μ-loop
-mul-s c = omega (arith, c .before .before .size .ensures)
+mul-s c = omega (arith, c .index .ensures, c .before .of .ensures)
 
 element-copy-out-s : tie.Need-element-copy-out-s Inv-loop μ-loop
-element-copy-out-s c = omega (arith, c .before .before .size .ensures)
+element-copy-out-s c = omega (arith, c .index .ensures, c .before .of .ensures)
 
-add-note : tie.Need-add-note Inv-loop μ-loop
-add-note c = omega (arith, c .before .before .before .before .before .size .ensures, c .before .before .before .loop-test .taken)
+listed-by-switch-requires : tie.Need-listed-by-switch-requires Inv-loop μ-loop
+listed-by-switch-requires c κs = tt
 
-deliverable-requires : tie.Need-deliverable-requires Inv-loop μ-loop
-deliverable-requires c κs = tt
-
-note-requires : tie.Need-note-requires Inv-loop μ-loop
-note-requires c κs =
-    let dl = c in
-    let il = dl .before .before .before .before in
+list-if-requires : tie.Need-list-if-requires Inv-loop μ-loop
+list-if-requires c κs =
+    let sw = c .before in
+    let x = sw .before .before in
+    let o = x .before in
+    let il = o .before in
     let l = il .before .loop in
     let sz = il .before .before in
     let st = sz .before .before in
     let a = st .args in
+    let n = tableSize (a .t1 .«spi_count») in
     let t = deliverableAt (a .t1 .slots) in
-    let on : dl .deliverable .result ≡ t (32 + l .j) = dl .deliverable .ensures ∙ at-place (a .t1 .slots) (l .j) in
-    let fits = turns-fit t 32 (now (a .list)) (sz .size .result) (omega (arith, sz .size .ensures, st .pre)) in
-    λ h. told-room t 32 (now (a .list)) (sz .size .result) fits (l .j) (l .list) (l .count) (il .loop-test .taken) (l .inv .1) (sym on ∙ h)
+    let high : l .i < 32 + n = omega (arith, il .loop-test .taken, sz .size .ensures) in
+    let at : x .index .result ≡ l .i - 32 = omega (arith, x .index .ensures, o .of .ensures, high) in
+    let on : sw .listed-by-switch .result ≡ t (l .i) = sw .listed-by-switch .ensures ∙ deliverable-at (a .t1 .slots) (x .index .result) (l .i) at in
+    λ h. list-room t 32 (now (a .list)) (32 + n) (turns-fit t (now (a .list)) n (st .pre)) (l .i) (l .list) (l .count) (l .inv .0) high (l .inv .2) (sym on ∙ h)
 
-add-j : tie.Need-add-j Inv-loop μ-loop
-add-j c = omega (arith, c .before .before .before .before .before .before .before .loop-test .taken, c .before .before .before .before .before .before .before .before .before .size .ensures)
+add-i : tie.Need-add-i Inv-loop μ-loop
+add-i c =
+    let il = c .before .before .before .before .before .before .before .before in
+    omega (arith, il .loop-test .taken, il .before .before .size .ensures)
 
 loop-less : tie.Need-loop-less Inv-loop μ-loop
-loop-less c = omega arith
+loop-less c = omega (arith, c .before .before .before .before .before .before .before .before .loop-test .taken)
 
 loop-again : tie.Need-loop-again Inv-loop μ-loop
 loop-again c =
-    let nt = c .before .before in
-    let dl = nt .before in
-    let il = dl .before .before .before .before in
+    let li = c .before .before in
+    let sw = li .before .before in
+    let x = sw .before .before in
+    let o = x .before in
+    let il = o .before in
     let l = il .before .loop in
     let sz = il .before .before in
     let st = sz .before .before in
     let a = st .args in
+    let n = tableSize (a .t1 .«spi_count») in
     let t = deliverableAt (a .t1 .slots) in
-    let on : dl .deliverable .result ≡ t (32 + l .j) = dl .deliverable .ensures ∙ at-place (a .t1 .slots) (l .j) in
-    let fits = turns-fit t 32 (now (a .list)) (sz .size .result) (omega (arith, sz .size .ensures, st .pre)) in (
-      omega (arith, il .loop-test .taken),
-      rw (nt .note .ensures .0, nt .note .ensures .1) (told-more t 32 (now (a .list)) (sz .size .result) fits (l .j) (l .list) (l .count) _ (il .loop-test .taken) (l .inv .1) on),
+    let high : l .i < 32 + n = omega (arith, il .loop-test .taken, sz .size .ensures) in
+    let at : x .index .result ≡ l .i - 32 = omega (arith, x .index .ensures, o .of .ensures, high) in
+    let on : sw .listed-by-switch .result ≡ t (l .i) = sw .listed-by-switch .ensures ∙ deliverable-at (a .t1 .slots) (x .index .result) (l .i) at in (
+      omega arith,
+      omega (arith, high),
+      rw (li .list-if .ensures .0, li .list-if .ensures .1)
+          (list-more t 32 (now (a .list)) (32 + n) (turns-fit t (now (a .list)) n (st .pre)) (l .i) (l .list) (l .count) _ (l .inv .0) high (l .inv .2) on),
     )
 
 same-length : tie.Need-same-length Inv-loop μ-loop
 same-length c =
-    let sz = c .before .before in
-    let st = sz .before .before in
-    let a = st .args in
     let l = c .before .loop in
-    told-size (deliverableAt (a .t1 .slots)) 32 (now (a .list)) (sz .size .result) (turns-fit (deliverableAt (a .t1 .slots)) 32 (now (a .list)) (sz .size .result) (omega (arith, sz .size .ensures, st .pre))) (l .j) (l .list) (l .count) (l .inv .0) (l .inv .1)
+    let st = c .before .before .before .before in
+    let a = st .args in
+    let n = tableSize (a .t1 .«spi_count») in
+    let t = deliverableAt (a .t1 .slots) in
+    list-size t 32 (now (a .list)) (32 + n) (turns-fit t (now (a .list)) n (st .pre)) (l .i) (l .list) (l .count) (l .inv .1) (l .inv .2)
 
 returns : tie.Need-returns Inv-loop μ-loop
 returns c =
-    let z : c .before .loop .j ≡ size (c .before .before .before .before .args .t1) = omega (arith, c .before .before .size .ensures) in
-    rw z at (c .before .loop .inv .1)
+    let l = c .before .loop in
+    let a = c .before .before .before .before .args in
+    let z : l .i - 32 ≡ tableSize (a .t1 .«spi_count») = omega (arith, c .before .before .size .ensures) in
+    rw z at (l .inv .2)
 
 pub list-deliverable-spec : {M : Type 1} → statement M
 list-deliverable-spec =
@@ -92,14 +112,15 @@ list-deliverable-spec =
     Inv-loop
     μ-loop
     size-requires
+    add-end
     loop-holds
-    cast-p
+    of-requires
+    index-requires
     mul-s
     element-copy-out-s
-    add-note
-    deliverable-requires
-    note-requires
-    add-j
+    listed-by-switch-requires
+    list-if-requires
+    add-i
     loop-less
     loop-again
     same-length

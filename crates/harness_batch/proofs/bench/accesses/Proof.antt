@@ -21,8 +21,8 @@ width-requires c κs = tt
 read-requires : tie.Need-read-requires Inv-loop μ-loop
 read-requires c κs = tt
 
-seen-requires : tie.Need-seen-requires Inv-loop μ-loop
-seen-requires c κs = tt
+read-requires-2 : tie.Need-read-requires-2 Inv-loop μ-loop
+read-requires-2 c κs = tt
 
 add-requires : tie.Need-add-requires Inv-loop μ-loop
 add-requires c κs = tt
@@ -61,7 +61,7 @@ accesses-spec =
     call-at-requires
     width-requires
     read-requires
-    seen-requires
+    read-requires-2
     add-requires
     write-requires
     written-requires

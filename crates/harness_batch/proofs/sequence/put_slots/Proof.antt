@@ -1,4 +1,5 @@
 -- `put_slots` is safe and ends: each turn takes a place. The bytes stay as many.
+use Rattle.place.specs.Table.{capacity}
 use Prim.Native.Nat.{_-_}
 use borrow.Author.Needs.{needs}
 use native.Mathlib.Omega.{arith}
@@ -11,7 +12,7 @@ abbrev Inv-loop : tie.InvT-loop
 Inv-loop n seen₀ at d next₀ i₀ seen next i = length seen ≡ length seen₀
 
 abbrev μ-loop : tie.MeasureT-loop
-μ-loop n seen₀ at d next₀ i₀ seen next i = 988 - i
+μ-loop n seen₀ at d next₀ i₀ seen next i = capacity - i
 
 loop-holds : tie.Need-loop-holds Inv-loop μ-loop
 loop-holds c = refl
@@ -19,8 +20,8 @@ loop-holds c = refl
 mul-s : tie.Need-mul-s Inv-loop μ-loop
 mul-s c = search needs
 
-element-copy-out-s : tie.Need-element-copy-out-s Inv-loop μ-loop
-element-copy-out-s c = search needs
+array-copy-out-s : tie.Need-array-copy-out-s Inv-loop μ-loop
+array-copy-out-s c = search needs
 
 pack-requires : tie.Need-pack-requires Inv-loop μ-loop
 pack-requires c κs = tt
@@ -57,7 +58,7 @@ put-slots-spec =
     μ-loop
     loop-holds
     mul-s
-    element-copy-out-s
+    array-copy-out-s
     pack-requires
     put-eight-requires
     add-i

@@ -26,11 +26,8 @@ element-copy-out-wide-word c = search needs
 wide-word-requires : tie.Need-wide-word-requires Inv-loop μ-loop
 wide-word-requires c κs = tt
 
-held-requires : tie.Need-held-requires Inv-loop μ-loop
-held-requires c κs = tt
-
-is-nothing-requires : tie.Need-is-nothing-requires Inv-loop μ-loop
-is-nothing-requires c κs = tt
+difference-at-requires : tie.Need-difference-at-requires Inv-loop μ-loop
+difference-at-requires c κs = tt
 
 returns : tie.Need-returns Inv-loop μ-loop
 returns c = tt
@@ -44,8 +41,8 @@ loop-less c = omega arith
 loop-again : tie.Need-loop-again Inv-loop μ-loop
 loop-again c = tt
 
-same-requires : tie.Need-same-requires Inv-loop μ-loop
-same-requires c κs = tt
+difference-at-requires-2 : tie.Need-difference-at-requires-2 Inv-loop μ-loop
+difference-at-requires-2 c κs = tt
 
 returns-2 : tie.Need-returns-2 Inv-loop μ-loop
 returns-2 c = tt
@@ -61,11 +58,10 @@ compare-list-spec =
     mul-wide-word
     element-copy-out-wide-word
     wide-word-requires
-    held-requires
-    is-nothing-requires
+    difference-at-requires
     returns
     add-i
     loop-less
     loop-again
-    same-requires
+    difference-at-requires-2
     returns-2)

@@ -4,12 +4,12 @@ use mathlib.Core.Bool.{false, or-false}
 use borrow.Author.Needs.{needs}
 use Rattle.interrupt.specs.declared.interrupt.InterruptRecord.{InterruptRecord}
 use Rattle.identifiers.specs.declared.types.InterruptState.the-variants.{Inactive}
-use Rattle.interrupt.specs.Life.{held, pendingTo, stateTo}
+use Rattle.interrupt.specs.Life.{hasDelivery, pendingTo, stateTo}
 use Rattle.operation.proofs.hidden.inflight.Statement.{statement}
 use Rattle.operation.proofs.hidden.inflight.Tie as tie
 
-seen : (r : InterruptRecord) → held (pendingTo false (stateTo Inactive r)) ≡ r .inflight
-unfolding held pendingTo stateTo
+seen : (r : InterruptRecord) → hasDelivery (pendingTo false (stateTo Inactive r)) ≡ r .inflight
+unfolding hasDelivery pendingTo stateTo
 seen r = or-false _
 
 set-state-requires : tie.Need-set-state-requires

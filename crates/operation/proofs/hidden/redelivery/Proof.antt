@@ -3,12 +3,12 @@ use mathlib.Core.Path.{_≡_, _∙_, refl}
 use borrow.Author.Needs.{needs}
 use Rattle.interrupt.specs.declared.interrupt.InterruptRecord.{InterruptRecord}
 use Rattle.identifiers.specs.declared.types.InterruptState.the-variants.{Inactive}
-use Rattle.interrupt.specs.Life.{cancelled, landed, stateTo}
+use Rattle.interrupt.specs.Life.{cancelled, outOfFlight, stateTo}
 use Rattle.operation.proofs.hidden.redelivery.Statement.{statement}
 use Rattle.operation.proofs.hidden.redelivery.Tie as tie
 
 seen : (r : InterruptRecord) → cancelled (stateTo Inactive r) .pending ≡ r .«redelivery_pending»
-unfolding cancelled landed stateTo
+unfolding cancelled outOfFlight stateTo
 seen r = refl
 
 set-state-requires : tie.Need-set-state-requires

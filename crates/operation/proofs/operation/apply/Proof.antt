@@ -1,9 +1,22 @@
--- `apply` meets its contract: an arm for each operation, which does what that operation ensures.
-use mathlib.Core.Path.{ap}
 use borrow.Author.Needs.{needs}
-use Rattle.interrupt.specs.declared.interrupt.Synchronized.{Synchronized}
 use Rattle.operation.proofs.operation.apply.Statement.{statement}
 use Rattle.operation.proofs.operation.apply.Tie as tie
+use Rattle.interrupt.proofs.interrupt.InterruptRecord.cancel_inflight.Reads as cancel-inflight-reads
+use Rattle.interrupt.proofs.interrupt.InterruptRecord.clear_delivery_state.Reads as clear-delivery-state-reads
+use Rattle.interrupt.proofs.interrupt.InterruptRecord.clear_route.Reads as clear-route-reads
+use Rattle.interrupt.proofs.interrupt.InterruptRecord.complete.Reads as complete-reads
+use Rattle.interrupt.proofs.interrupt.InterruptRecord.deactivate_inflight.Reads as deactivate-inflight-reads
+use Rattle.interrupt.proofs.interrupt.InterruptRecord.finish_inflight.Reads as finish-inflight-reads
+use Rattle.interrupt.proofs.interrupt.InterruptRecord.mark_inflight.Reads as mark-inflight-reads
+use Rattle.interrupt.proofs.interrupt.InterruptRecord.pulse.Reads as pulse-reads
+use Rattle.interrupt.proofs.interrupt.InterruptRecord.set_active.Reads as set-active-reads
+use Rattle.interrupt.proofs.interrupt.InterruptRecord.set_enabled.Reads as set-enabled-reads
+use Rattle.interrupt.proofs.interrupt.InterruptRecord.set_level.Reads as set-level-reads
+use Rattle.interrupt.proofs.interrupt.InterruptRecord.set_pending.Reads as set-pending-reads
+use Rattle.interrupt.proofs.interrupt.InterruptRecord.set_priority.Reads as set-priority-reads
+use Rattle.interrupt.proofs.interrupt.InterruptRecord.set_route.Reads as set-route-reads
+use Rattle.interrupt.proofs.interrupt.InterruptRecord.set_state.Reads as set-state-reads
+use Rattle.interrupt.proofs.interrupt.InterruptRecord.set_trigger.Reads as set-trigger-reads
 
 enum-known-operation : tie.Need-enum-known-operation
 enum-known-operation c = search needs
@@ -41,12 +54,6 @@ enum-told-2 c = search needs
 mark-inflight-requires : tie.Need-mark-inflight-requires
 mark-inflight-requires c κs = search needs
 
-enum-known-operation-5 : tie.Need-enum-known-operation-5
-enum-known-operation-5 c = search needs
-
-synchronize-inflight-requires : tie.Need-synchronize-inflight-requires
-synchronize-inflight-requires c κs = search needs
-
 enum-told-3 : tie.Need-enum-told-3
 enum-told-3 c = search needs
 
@@ -59,26 +66,26 @@ enum-told-4 c = search needs
 finish-inflight-requires : tie.Need-finish-inflight-requires
 finish-inflight-requires c κs = search needs
 
-enum-known-operation-6 : tie.Need-enum-known-operation-6
-enum-known-operation-6 c = search needs
+enum-known-operation-5 : tie.Need-enum-known-operation-5
+enum-known-operation-5 c = search needs
 
 deactivate-inflight-requires : tie.Need-deactivate-inflight-requires
 deactivate-inflight-requires c κs = search needs
 
-enum-known-operation-7 : tie.Need-enum-known-operation-7
-enum-known-operation-7 c = search needs
+enum-known-operation-6 : tie.Need-enum-known-operation-6
+enum-known-operation-6 c = search needs
 
 set-priority-requires : tie.Need-set-priority-requires
 set-priority-requires c κs = search needs
 
-enum-known-operation-8 : tie.Need-enum-known-operation-8
-enum-known-operation-8 c = search needs
+enum-known-operation-7 : tie.Need-enum-known-operation-7
+enum-known-operation-7 c = search needs
 
 set-trigger-requires : tie.Need-set-trigger-requires
 set-trigger-requires c κs = search needs
 
-enum-known-operation-9 : tie.Need-enum-known-operation-9
-enum-known-operation-9 c = search needs
+enum-known-operation-8 : tie.Need-enum-known-operation-8
+enum-known-operation-8 c = search needs
 
 set-route-requires : tie.Need-set-route-requires
 set-route-requires c κs = search needs
@@ -89,14 +96,8 @@ enum-told-5 c = search needs
 clear-route-requires : tie.Need-clear-route-requires
 clear-route-requires c κs = search needs
 
-enum-known-operation-10 : tie.Need-enum-known-operation-10
-enum-known-operation-10 c = search needs
-
-set-cpu-target-mask-requires : tie.Need-set-cpu-target-mask-requires
-set-cpu-target-mask-requires c κs = search needs
-
-enum-known-operation-11 : tie.Need-enum-known-operation-11
-enum-known-operation-11 c = search needs
+enum-known-operation-9 : tie.Need-enum-known-operation-9
+enum-known-operation-9 c = search needs
 
 set-level-requires : tie.Need-set-level-requires
 set-level-requires c κs = search needs
@@ -132,40 +133,34 @@ returns-6 : tie.Need-returns-6
 returns-6 c = rw (c .before .enum-told2 .given .1) (c .mark-inflight .ensures)
 
 returns-7 : tie.Need-returns-7
-returns-7 c = rw (c .before .before .before .operation5 .given .1) (ap (λ (s : Synchronized). s .interrupt) (c .before .synchronize-inflight .ensures))
+returns-7 c = rw (c .before .enum-told3 .given .1) (c .cancel-inflight .ensures)
 
 returns-8 : tie.Need-returns-8
-returns-8 c = rw (c .before .enum-told3 .given .1) (c .cancel-inflight .ensures)
+returns-8 c = rw (c .before .enum-told4 .given .1) (c .finish-inflight .ensures)
 
 returns-9 : tie.Need-returns-9
-returns-9 c = rw (c .before .enum-told4 .given .1) (c .finish-inflight .ensures)
+returns-9 c = rw (c .before .before .operation5 .given .1) (c .deactivate-inflight .ensures)
 
 returns-10 : tie.Need-returns-10
-returns-10 c = rw (c .before .before .operation6 .given .1) (c .deactivate-inflight .ensures)
+returns-10 c = rw (c .before .before .operation6 .given .1) (c .set-priority .ensures)
 
 returns-11 : tie.Need-returns-11
-returns-11 c = rw (c .before .before .operation7 .given .1) (c .set-priority .ensures)
+returns-11 c = rw (c .before .before .operation7 .given .1) (c .set-trigger .ensures)
 
 returns-12 : tie.Need-returns-12
-returns-12 c = rw (c .before .before .operation8 .given .1) (c .set-trigger .ensures)
+returns-12 c = rw (c .before .before .operation8 .given .1) (c .set-route .ensures)
 
 returns-13 : tie.Need-returns-13
-returns-13 c = rw (c .before .before .operation9 .given .1) (c .set-route .ensures)
+returns-13 c = rw (c .before .enum-told5 .given .1) (c .clear-route .ensures)
 
 returns-14 : tie.Need-returns-14
-returns-14 c = rw (c .before .enum-told5 .given .1) (c .clear-route .ensures)
+returns-14 c = rw (c .before .before .operation9 .given .1) (c .set-level .ensures)
 
 returns-15 : tie.Need-returns-15
-returns-15 c = rw (c .before .before .operation10 .given .1) (c .set-cpu-target-mask .ensures)
+returns-15 c = rw (c .before .enum-told6 .given .1) (c .pulse .ensures)
 
 returns-16 : tie.Need-returns-16
-returns-16 c = rw (c .before .before .operation11 .given .1) (c .set-level .ensures)
-
-returns-17 : tie.Need-returns-17
-returns-17 c = rw (c .before .enum-told6 .given .1) (c .pulse .ensures)
-
-returns-18 : tie.Need-returns-18
-returns-18 c = rw (c .before .enum-told7 .given .1) (c .complete .ensures)
+returns-16 c = rw (c .before .enum-told7 .given .1) (c .complete .ensures)
 
 pub apply-spec : {M : Type 1} → statement M
 apply-spec =
@@ -183,25 +178,21 @@ apply-spec =
     clear-delivery-state-requires
     enum-told-2
     mark-inflight-requires
-    enum-known-operation-5
-    synchronize-inflight-requires
     enum-told-3
     cancel-inflight-requires
     enum-told-4
     finish-inflight-requires
-    enum-known-operation-6
+    enum-known-operation-5
     deactivate-inflight-requires
-    enum-known-operation-7
+    enum-known-operation-6
     set-priority-requires
-    enum-known-operation-8
+    enum-known-operation-7
     set-trigger-requires
-    enum-known-operation-9
+    enum-known-operation-8
     set-route-requires
     enum-told-5
     clear-route-requires
-    enum-known-operation-10
-    set-cpu-target-mask-requires
-    enum-known-operation-11
+    enum-known-operation-9
     set-level-requires
     enum-told-6
     pulse-requires
@@ -222,6 +213,4 @@ apply-spec =
     returns-13
     returns-14
     returns-15
-    returns-16
-    returns-17
-    returns-18)
+    returns-16)

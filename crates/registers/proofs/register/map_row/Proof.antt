@@ -4,7 +4,8 @@ use mathlib.Core.Path.{_≡_, sym, ap, _∙_}
 use native.Mathlib.Omega.{arith}
 use lib.ListN.{getD}
 use Rattle.registers.proofs.Rows.{past, beyond}
-use Rattle.registers.specs.Registers.{map, noRow}
+use Rattle.registers.specs.Registers.{map}
+use Rattle.registers.specs.MapRows.{noRow}
 use borrow.Author.Needs.{needs}
 use Rattle.registers.proofs.register.map_row.Statement.{statement}
 use Rattle.registers.proofs.register.map_row.Tie as tie

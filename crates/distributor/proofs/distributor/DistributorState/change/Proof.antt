@@ -1,14 +1,13 @@
 -- `change` meets its contract: the slot at the SPI's place is changed, or the call is refused.
 use mathlib.Core.Path.{_≡_, refl, sym, ap, _∙_}
 use native.Mathlib.Omega.{arith}
-use Rattle.bank.specs.BankLaws.{in-range}
+use Rattle.place.specs.Table.{tableSize, toldPlace, placeAnswer}
+use Rattle.place.specs.TableLaws.{in-range, at-place, off-place}
 use lib.ListN.{set}
-use Rattle.slot.specs.declared.change.ChangeAnswer.{ChangeAnswer}
-use Rattle.distributor.specs.Calls.{size}
-use Rattle.distributor.specs.Loops.{withSlots}
-use Rattle.registers.specs.Places.{toldPlace, placeAnswer}
 use Rattle.identifiers.specs.Answer.{toldRefusal}
-use Rattle.distributor.proofs.Hosting.{at-place, off-place, changed-at, changed-off}
+use Rattle.spi.specs.declared.change.ChangeAnswer.{ChangeAnswer}
+use Rattle.distributor.specs.Loops.{withSlots}
+use Rattle.distributor.proofs.Hosting.{changed-in, changed-out}
 use borrow.Author.Needs.{needs}
 use Rattle.distributor.proofs.distributor.DistributorState.change.Statement.{statement}
 use Rattle.distributor.proofs.distributor.DistributorState.change.Tie as tie
@@ -31,9 +30,10 @@ mul-old c =
     let nw = pc .before .before in
     let rw′ = nw .before in
     let a = rw′ .before .args in
-    let k = at-place (a .t1) (a .spi .0) (pc .place .given .0 .0 .0) (size (a .t1)) refl
-    (sym (ap toldPlace (pc .place .given .1)) ∙ nw .new .ensures ∙ ap (placeAnswer (size (a .t1))) (rw′ .raw .ensures)) in
-    let r = in-range (size (a .t1)) (a .spi .0) (k .0) in omega (arith, r, k .1, c .index .ensures)
+    let k = at-place (tableSize (a .t1 .«spi_count»)) (a .spi .0) (pc .place .given .0 .0 .0)
+    (sym (ap toldPlace (pc .place .given .1)) ∙ nw .new .ensures ∙ ap (placeAnswer (tableSize (a .t1 .«spi_count»))) (rw′ .raw .ensures)) in
+    let r = in-range (tableSize (a .t1 .«spi_count»)) (a .spi .0) (k .0) in
+    omega (arith, r, k .1, c .index .ensures)
 
 element-copy-out-old : tie.Need-element-copy-out-old
 element-copy-out-old c =
@@ -41,9 +41,10 @@ element-copy-out-old c =
     let nw = pc .before .before in
     let rw′ = nw .before in
     let a = rw′ .before .args in
-    let k = at-place (a .t1) (a .spi .0) (pc .place .given .0 .0 .0) (size (a .t1)) refl
-    (sym (ap toldPlace (pc .place .given .1)) ∙ nw .new .ensures ∙ ap (placeAnswer (size (a .t1))) (rw′ .raw .ensures)) in
-    let r = in-range (size (a .t1)) (a .spi .0) (k .0) in omega (arith, r, k .1, c .index .ensures)
+    let k = at-place (tableSize (a .t1 .«spi_count»)) (a .spi .0) (pc .place .given .0 .0 .0)
+    (sym (ap toldPlace (pc .place .given .1)) ∙ nw .new .ensures ∙ ap (placeAnswer (tableSize (a .t1 .«spi_count»))) (rw′ .raw .ensures)) in
+    let r = in-range (tableSize (a .t1 .«spi_count»)) (a .spi .0) (k .0) in
+    omega (arith, r, k .1, c .index .ensures)
 
 changed-requires : tie.Need-changed-requires
 changed-requires c κs = search needs
@@ -55,9 +56,10 @@ mul-t13 c =
     let nw = pc .before .before in
     let rw′ = nw .before in
     let a = rw′ .before .args in
-    let k = at-place (a .t1) (a .spi .0) (pc .place .given .0 .0 .0) (size (a .t1)) refl
-    (sym (ap toldPlace (pc .place .given .1)) ∙ nw .new .ensures ∙ ap (placeAnswer (size (a .t1))) (rw′ .raw .ensures)) in
-    let r = in-range (size (a .t1)) (a .spi .0) (k .0) in omega (arith, r, k .1, ix .index .ensures)
+    let k = at-place (tableSize (a .t1 .«spi_count»)) (a .spi .0) (pc .place .given .0 .0 .0)
+    (sym (ap toldPlace (pc .place .given .1)) ∙ nw .new .ensures ∙ ap (placeAnswer (tableSize (a .t1 .«spi_count»))) (rw′ .raw .ensures)) in
+    let r = in-range (tableSize (a .t1 .«spi_count»)) (a .spi .0) (k .0) in
+    omega (arith, r, k .1, ix .index .ensures)
 
 element-set-from-self : tie.Need-element-set-from-self
 element-set-from-self c =
@@ -66,12 +68,13 @@ element-set-from-self c =
     let nw = pc .before .before in
     let rw′ = nw .before in
     let a = rw′ .before .args in
-    let k = at-place (a .t1) (a .spi .0) (pc .place .given .0 .0 .0) (size (a .t1)) refl
-    (sym (ap toldPlace (pc .place .given .1)) ∙ nw .new .ensures ∙ ap (placeAnswer (size (a .t1))) (rw′ .raw .ensures)) in
-    let r = in-range (size (a .t1)) (a .spi .0) (k .0) in omega (arith, r, k .1, ix .index .ensures)
+    let k = at-place (tableSize (a .t1 .«spi_count»)) (a .spi .0) (pc .place .given .0 .0 .0)
+    (sym (ap toldPlace (pc .place .given .1)) ∙ nw .new .ensures ∙ ap (placeAnswer (tableSize (a .t1 .«spi_count»))) (rw′ .raw .ensures)) in
+    let r = in-range (tableSize (a .t1 .«spi_count»)) (a .spi .0) (k .0) in
+    omega (arith, r, k .1, ix .index .ensures)
 
-answer-requires : tie.Need-answer-requires
-answer-requires c κs = search needs
+change-answer-requires : tie.Need-change-answer-requires
+change-answer-requires c κs = search needs
 
 enum-known-refusal : tie.Need-enum-known-refusal
 enum-known-refusal c = search needs
@@ -84,9 +87,9 @@ returns c =
     let nw = pc .before .before in
     let rw′ = nw .before in
     let a = rw′ .before .args in
-    let k = at-place (a .t1) (a .spi .0) (pc .place .given .0 .0 .0) (size (a .t1)) refl
-    (sym (ap toldPlace (pc .place .given .1)) ∙ nw .new .ensures ∙ ap (placeAnswer (size (a .t1))) (rw′ .raw .ensures)) in
-    changed-at (a .t1) (a .spi .0) (a .change) (ix .index .result) (ch .changed .result) (record { state = withSlots (a .t1) (set (a .t1 .slots) (ix .index .result) (ch .changed .result)); answer = c .answer .result }) (k .0) (ix .index .ensures ∙ k .1) (ch .changed .ensures) refl (c .answer .ensures)
+    let k = at-place (tableSize (a .t1 .«spi_count»)) (a .spi .0) (pc .place .given .0 .0 .0)
+    (sym (ap toldPlace (pc .place .given .1)) ∙ nw .new .ensures ∙ ap (placeAnswer (tableSize (a .t1 .«spi_count»))) (rw′ .raw .ensures)) in
+    changed-in (a .t1) (a .spi .0) (a .what) (ix .index .result) (ch .changed .result) (record { state = withSlots (a .t1) (set (a .t1 .slots) (ix .index .result) (ch .changed .result)); answer = c .change-answer .result }) (k .0) (ix .index .ensures ∙ k .1) (ch .changed .ensures) refl (c .change-answer .ensures)
 
 returns-2 : tie.Need-returns-2
 returns-2 c =
@@ -94,9 +97,9 @@ returns-2 c =
     let nw = rf .before .before in
     let rw′ = nw .before in
     let a = rw′ .before .args in
-    let k = off-place (a .t1) (a .spi .0) (rf .refusal .given .0 .0) (size (a .t1)) refl
-    (sym (ap toldPlace (rf .refusal .given .1)) ∙ nw .new .ensures ∙ ap (placeAnswer (size (a .t1))) (rw′ .raw .ensures)) in
-    changed-off (a .t1) (a .spi .0) (a .change) (record { state = a .t1; answer = ChangeAnswer.Refused (rf .refusal .given .0 .0) }) (k .0) refl (ap toldRefusal (k .1))
+    let k = off-place (tableSize (a .t1 .«spi_count»)) (a .spi .0) (rf .refusal .given .0 .0)
+    (sym (ap toldPlace (rf .refusal .given .1)) ∙ nw .new .ensures ∙ ap (placeAnswer (tableSize (a .t1 .«spi_count»))) (rw′ .raw .ensures)) in
+    changed-out (a .t1) (a .spi .0) (a .what) (record { state = a .t1; answer = ChangeAnswer.Refused (rf .refusal .given .0 .0) }) (k .0) refl (ap toldRefusal (k .1))
 
 pub change-spec : {M : Type 1} → statement M
 change-spec =
@@ -111,7 +114,7 @@ change-spec =
     changed-requires
     mul-t13
     element-set-from-self
-    answer-requires
+    change-answer-requires
     enum-known-refusal
     returns
     returns-2)

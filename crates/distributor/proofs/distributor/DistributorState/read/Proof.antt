@@ -1,10 +1,10 @@
 -- `read` meets its contract: the access is decoded, and its register read.
 use mathlib.Core.Path.{sym, ap, _∙_}
+use Rattle.registers.proofs.Rows.{decode-bounded, decode-whole}
 use Rattle.registers.specs.declared.register.Direction.the-variants.{Reading}
-use Rattle.distributor.specs.Calls.{readReply, reply}
-use Rattle.registers.proofs.Rows.{decode-bounded}
+use Rattle.model.specs.Calls.{readReply, reply}
+use Rattle.distributor.specs.Model.{modelOf}
 use borrow.Author.Needs.{needs}
-use Rattle.registers.specs.Registers.{decode}
 use Rattle.distributor.proofs.distributor.DistributorState.read.Statement.{statement}
 use Rattle.distributor.proofs.distributor.DistributorState.read.Tie as tie
 
@@ -18,7 +18,8 @@ read-register-requires : tie.Need-read-register-requires
 read-register-requires c κs =
     let dc = c .before .before .before in
     let a = dc .before .before .args in
-    decode-bounded Reading (a .self .config .«distributor_size») (a .offset) (a .width) _ (sym (dc .decode .ensures) ∙ c .before .register .given .1)
+    let e = sym (dc .decode .ensures) ∙ c .before .register .given .1 in
+    (decode-bounded Reading (a .self .config .«distributor_size») (a .offset) (a .width) _ e, decode-whole (a .self .config .«distributor_size») (a .offset) (a .width) _ e)
 
 enum-known-refusal : tie.Need-enum-known-refusal
 enum-known-refusal c = search needs
@@ -28,14 +29,14 @@ unfolding reply
 returns c =
     let dc = c .before .before .before .before in
     let a = dc .before .before .args in
-    c .read-register .ensures ∙ ap (readReply (a .self)) (sym (sym (dc .decode .ensures) ∙ c .before .before .register .given .1))
+    c .read-register .ensures ∙ ap (readReply (modelOf (a .self))) (sym (sym (dc .decode .ensures) ∙ c .before .before .register .given .1))
 
 returns-2 : tie.Need-returns-2
 unfolding reply
 returns-2 c =
     let dc = c .before .before .before in
     let a = dc .before .before .args in
-    ap (readReply (a .self)) (sym (sym (dc .decode .ensures) ∙ c .before .refusal .given .1))
+    ap (readReply (modelOf (a .self))) (sym (sym (dc .decode .ensures) ∙ c .before .refusal .given .1))
 
 pub read-spec : {M : Type 1} → statement M
 read-spec =

@@ -30,7 +30,10 @@ enum-known-register-2 : tie.Need-enum-known-register-2
 enum-known-register-2 c = search needs
 
 read-bank-requires : tie.Need-read-bank-requires
-read-bank-requires c κs = rw (c .before .register2 .given .1) at (c .before .before .before .pre)
+read-bank-requires c κs =
+    let p = c .before .before .before .pre in
+    let b = rw (c .before .register2 .given .1) at (p .0) in
+    (b .0, b .1, b .2, rw (c .before .register2 .given .1) at (p .1))
 
 enum-told-4 : tie.Need-enum-told-4
 enum-told-4 c = search needs

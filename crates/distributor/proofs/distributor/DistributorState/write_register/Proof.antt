@@ -1,9 +1,6 @@
 -- `write_register` meets its contract: an arm for each register.
-use mathlib.Core.Path.{ap, _∙_}
 use denote.Ref.{now}
-use Rattle.distributor.specs.declared.access.WriteAnswer.{WriteAnswer}
-use Rattle.distributor.specs.Told.{toldWrite}
-use Rattle.distributor.proofs.Replying.{still}
+use Rattle.distributor.proofs.Replying.{ignored}
 use borrow.Author.Needs.{needs}
 use Rattle.distributor.proofs.distributor.DistributorState.write_register.Statement.{
   statement,
@@ -13,8 +10,8 @@ use Rattle.distributor.proofs.distributor.DistributorState.write_regist
 enum-told : tie.Need-enum-told
 enum-told c = search needs
 
-unwritten-requires : tie.Need-unwritten-requires
-unwritten-requires c κs = search needs
+unchanged-requires : tie.Need-unchanged-requires
+unchanged-requires c κs = search needs
 
 enum-told-2 : tie.Need-enum-told-2
 enum-told-2 c = search needs
@@ -25,29 +22,34 @@ write-ctlr-requires c κs = search needs
 enum-told-3 : tie.Need-enum-told-3
 enum-told-3 c = search needs
 
-unwritten-requires-2 : tie.Need-unwritten-requires-2
-unwritten-requires-2 c κs = search needs
+unchanged-requires-2 : tie.Need-unchanged-requires-2
+unchanged-requires-2 c κs = search needs
 
 enum-told-4 : tie.Need-enum-told-4
 enum-told-4 c = search needs
 
-unwritten-requires-3 : tie.Need-unwritten-requires-3
-unwritten-requires-3 c κs = search needs
+unchanged-requires-3 : tie.Need-unchanged-requires-3
+unchanged-requires-3 c κs = search needs
 
 enum-known-register : tie.Need-enum-known-register
 enum-known-register c = search needs
 
 write-bank-requires : tie.Need-write-bank-requires
-write-bank-requires c κs = let b = rw (c .before .before .register .given .1) at (c .before .before .before .before .before .pre .0) in (b .0, b .1, c .before .before .before .before .before .pre .1)
+write-bank-requires c κs =
+    let p = c .before .before .before .before .before .pre in
+    let b = rw (c .before .before .register .given .1) at (p .0) in
+    (b .0, b .1, p .1)
 
 enum-told-5 : tie.Need-enum-told-5
 enum-told-5 c = search needs
 
-unwritten-requires-4 : tie.Need-unwritten-requires-4
-unwritten-requires-4 c κs = search needs
+unchanged-requires-4 : tie.Need-unchanged-requires-4
+unchanged-requires-4 c κs = search needs
 
 returns : tie.Need-returns
-returns c = let u = c .unwritten .ensures in rw (c .before .enum-told .given .1) (u .0 ∙ still (c .before .before .before .before .args .self), ap (λ (x : WriteAnswer). record { answer = toldWrite x; list = now (c .before .before .before .before .args .list) }) (u .1))
+returns c =
+    let a = c .before .before .before .before .args in
+    rw (c .before .enum-told .given .1) (ignored (a .self) (a .value) (now (a .list)) (c .unchanged .result) (c .unchanged .ensures))
 
 same-length : tie.Need-same-length
 same-length c = search needs
@@ -56,10 +58,14 @@ returns-2 : tie.Need-returns-2
 returns-2 c = rw (c .before .before .before .before .enum-told2 .given .1) (c .before .before .write-ctlr .ensures)
 
 returns-3 : tie.Need-returns-3
-returns-3 c = let u = c .unwritten2 .ensures in rw (c .before .enum-told3 .given .1) (u .0 ∙ still (c .before .before .before .before .args .self), ap (λ (x : WriteAnswer). record { answer = toldWrite x; list = now (c .before .before .before .before .args .list) }) (u .1))
+returns-3 c =
+    let a = c .before .before .before .before .args in
+    rw (c .before .enum-told3 .given .1) (ignored (a .self) (a .value) (now (a .list)) (c .unchanged2 .result) (c .unchanged2 .ensures))
 
 returns-4 : tie.Need-returns-4
-returns-4 c = let u = c .unwritten3 .ensures in rw (c .before .enum-told4 .given .1) (u .0 ∙ still (c .before .before .before .before .args .self), ap (λ (x : WriteAnswer). record { answer = toldWrite x; list = now (c .before .before .before .before .args .list) }) (u .1))
+returns-4 c =
+    let a = c .before .before .before .before .args in
+    rw (c .before .enum-told4 .given .1) (ignored (a .self) (a .value) (now (a .list)) (c .unchanged3 .result) (c .unchanged3 .ensures))
 
 same-length-2 : tie.Need-same-length-2
 same-length-2 c = search needs
@@ -68,24 +74,26 @@ returns-5 : tie.Need-returns-5
 returns-5 c = rw (c .before .before .before .before .before .register .given .1) (c .before .before .write-bank .ensures)
 
 returns-6 : tie.Need-returns-6
-returns-6 c = let u = c .unwritten4 .ensures in rw (c .before .enum-told5 .given .1) (u .0 ∙ still (c .before .before .before .before .args .self), ap (λ (x : WriteAnswer). record { answer = toldWrite x; list = now (c .before .before .before .before .args .list) }) (u .1))
+returns-6 c =
+    let a = c .before .before .before .before .args in
+    rw (c .before .enum-told5 .given .1) (ignored (a .self) (a .value) (now (a .list)) (c .unchanged4 .result) (c .unchanged4 .ensures))
 
 pub write-register-spec : {M : Type 1} → statement M
 write-register-spec =
     tie.close
     (tie.spec
     enum-told
-    unwritten-requires
+    unchanged-requires
     enum-told-2
     write-ctlr-requires
     enum-told-3
-    unwritten-requires-2
+    unchanged-requires-2
     enum-told-4
-    unwritten-requires-3
+    unchanged-requires-3
     enum-known-register
     write-bank-requires
     enum-told-5
-    unwritten-requires-4
+    unchanged-requires-4
     returns
     same-length
     returns-2

@@ -1,10 +1,10 @@
 use borrow.Author.Needs.{needs}
-use Rattle.interrupt.specs.Life.{cancelled, landed}
+use Rattle.interrupt.specs.Life.{cancelled, outOfFlight}
 use Rattle.interrupt.proofs.interrupt.InterruptRecord.cancel_inflight.Statement.{statement}
 use Rattle.interrupt.proofs.interrupt.InterruptRecord.cancel_inflight.Tie as tie
 
 returns : tie.Need-returns
-unfolding cancelled landed
+unfolding cancelled outOfFlight
 returns c = search needs
 
 pub cancel-inflight-spec : {M : Type 1} → statement M

@@ -1,5 +1,5 @@
 use borrow.Author.Needs.{needs}
-use Rattle.interrupt.specs.Life.{deactivated, landed}
+use Rattle.interrupt.specs.Life.{deactivated, outOfFlight}
 use Rattle.interrupt.proofs.interrupt.InterruptRecord.deactivate_inflight.Statement.{
   statement,
 }
@@ -9,7 +9,7 @@ level-high-requires : tie.Need-level-high-requires
 level-high-requires c κs = search needs
 
 returns : tie.Need-returns
-unfolding deactivated landed
+unfolding deactivated outOfFlight
 returns c = cc
 
 pub deactivate-inflight-spec : {M : Type 1} → statement M

@@ -3,7 +3,7 @@ use mathlib.Core.Path.{_≡_}
 use mathlib.Core.Bool.{Bool, true, false, not, _&&_, _||_, and-true, and-false, or-false}
 use borrow.Author.Needs.{needs}
 use Rattle.interrupt.specs.declared.interrupt.InterruptRecord.{InterruptRecord}
-use Rattle.identifiers.specs.State.{levelOf}
+use Rattle.identifiers.specs.States.{levelOf}
 use Rattle.interrupt.specs.Life.{flags, redelivery, line, levelTo, raised, lowered}
 use Rattle.interrupt.proofs.interrupt.InterruptRecord.set_level.Statement.{statement}
 use Rattle.interrupt.proofs.interrupt.InterruptRecord.set_level.Tie as tie

@@ -1,5 +1,5 @@
 use borrow.Author.Needs.{needs}
-use Rattle.interrupt.specs.Life.{synchronized, joined, stateTo, merged}
+use Rattle.interrupt.specs.Life.{synchronized, mergedRecord, stateTo, merged}
 use Rattle.interrupt.proofs.interrupt.InterruptRecord.synchronize_inflight.Statement.{
   statement,
 }
@@ -12,7 +12,7 @@ state-requires : tie.Need-state-requires
 state-requires c κs = search needs
 
 returns : tie.Need-returns
-unfolding synchronized joined stateTo merged
+unfolding synchronized mergedRecord stateTo merged
 returns c = simp (c .before .before .before .before .set-state .ensures, c .before .before .state .ensures)
 
 pub synchronize-inflight-spec : {M : Type 1} → statement M

@@ -1,7 +1,7 @@
 -- `of` gives the record's flags: each field is what its call promises.
 use mathlib.Core.Path.{ap, _∙_}
 use borrow.Author.Needs.{needs}
-use Rattle.identifiers.specs.State.{levelOf}
+use Rattle.identifiers.specs.States.{levelOf}
 use Rattle.program_life.proofs.flags.Flags.of.Statement.{statement}
 use Rattle.program_life.proofs.flags.Flags.of.Tie as tie
 

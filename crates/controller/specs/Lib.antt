@@ -1,0 +1,3 @@
+pub mod Ownership
+pub mod Identity
+pub mod IdentityLaws

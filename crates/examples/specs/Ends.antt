@@ -1,0 +1,79 @@
+-- Calls leave the settings, the count and what stands past the table. So two runs from one state end in one state if they leave the
+-- switch and the table's SPIs the same: of a whole state, an example computes these alone.
+use Prim.Native.Nat.{ℕ, zero, suc, _+_, _≤_}
+use mathlib.Core.Path.{_≡_, refl, sym, _∙_}
+use mathlib.Core.Bool.{Bool, true, false, _&&_, cond}
+use mathlib.Core.List.{List, [], _∷_, _++_}
+use native.Mathlib.Omega.{arith}
+use lib.ListN.{length, take, drop, take-append-drop}
+use Rattle.theory.specs.Bools.{refuted}
+use Rattle.theory.specs.Lists.{mapFrom}
+use Rattle.theory.specs.Runs.{run}
+use Rattle.identifiers.specs.Answer.{within}
+use Rattle.place.specs.Table.{inTable}
+use Rattle.place.specs.TableLaws.{in-range}
+use Rattle.controller.specs.declared.controller.ControllerConfig.{ControllerConfig}
+use Rattle.registers.specs.declared.register.Register.the-variants.{Identification, Ctlr, Typer, Iidr, Fields, Reserved}
+use Rattle.registers.specs.declared.register.Access.{Access}
+use Rattle.registers.specs.declared.register.Access.the-variants.{To, Refused}
+use Rattle.registers.specs.Registers.{writeAccess}
+use Rattle.slot.specs.declared.slot.Slot.{Slot}
+use Rattle.model.specs.Calls.{Distributor, Call, create, read, write, isSwitchedOn, rollback, change, ask, size, writtenAt, slotAfter, step}
+
+-- ---- one slot past the table
+
+unless-both : (a b : Bool) (t s : Slot) → b ≡ false → cond (a && b) t s ≡ s
+unless-both true b t s e = rw e
+unless-both false b t s e = refl
+
+module _ (c : ControllerConfig) (n i : ℕ) (s : Slot) (past : inTable n i ≡ false) where
+  write-past : (a : Access) (v : ℕ) → writtenAt c n a v i s ≡ s
+  write-past (Refused f) v = refl
+  write-past (To (Identification k)) v = refl
+  write-past (To Ctlr) v = refl
+  write-past (To Typer) v = refl
+  write-past (To Iidr) v = refl
+  write-past (To (Fields b lo m)) v = unless-both (within lo (lo + m) i) (inTable n i) _ s past
+  write-past (To Reserved) v = refl
+
+  call-past : (k : Call) → slotAfter c n k i s ≡ s
+  call-past (create d m) = refl
+  call-past (read offset w) = refl
+  call-past (write offset w v list) = write-past (writeAccess (length list) n (c .«distributor_size») offset w) v
+  call-past isSwitchedOn = refl
+  call-past (rollback on) = refl
+  call-past (change h raw) = rw past
+  call-past (ask q raw) = refl
+
+-- ---- a run
+
+module _ {A : Type 0} where
+  drop-mapFrom : (f : ℕ → A → A) (k n : ℕ) (l : List A) → ((p : ℕ) (x : A) → k + n ≤ p → f p x ≡ x) → drop n (mapFrom f k l) ≡ drop n l
+  drop-mapFrom f k zero [] h = refl
+  drop-mapFrom f k zero (x ∷ xs) h =
+      let p : f k x ≡ x = h k x (omega arith) in
+      let q : mapFrom f (suc k) xs ≡ xs = drop-mapFrom f (suc k) zero xs (λ i y m. h i y (omega arith)) in
+      λ j. p j ∷ q j
+  drop-mapFrom f k (suc n) [] h = refl
+  drop-mapFrom f k (suc n) (x ∷ xs) h = drop-mapFrom f (suc k) n xs (λ i y m. h i y (omega arith))
+
+run-past : (ks : List Call) (d : Distributor) → drop (size d) (run step ks d .slots) ≡ drop (size d) (d .slots)
+unfolding step
+run-past [] d = refl
+run-past (k ∷ ks) d =
+    run-past ks (step k d)
+    ∙ drop-mapFrom (λ p. slotAfter (d .config) (size d) k (32 + p)) 0 (size d) (d .slots)
+    (λ p x h. call-past (d .config) (size d) (32 + p) x (refuted _ (λ q. let r = in-range (size d) (32 + p) q in omega arith)) k)
+
+run-settings : (ks : List Call) (d : Distributor) → run step ks d ≡ record { config = d .config; switch = run step ks d .switch; count = d .count; slots = run step ks d .slots }
+unfolding step
+run-settings [] d = refl
+run-settings (k ∷ ks) d = run-settings ks (step k d)
+
+-- the switch and the table's SPIs, the first places, decide the state that a run ends in
+pub ends-same : (d : Distributor) (xs ys : List Call) → run step xs d .switch ≡ run step ys d .switch
+    → take (size d) (run step xs d .slots) ≡ take (size d) (run step ys d .slots) → run step xs d ≡ run step ys d
+ends-same d xs ys on table =
+    let rest : drop (size d) (run step xs d .slots) ≡ drop (size d) (run step ys d .slots) = run-past xs d ∙ sym (run-past ys d) in
+    let all : run step xs d .slots ≡ run step ys d .slots = sym (take-append-drop (size d) _) ∙ (λ j. table j ++ rest j) ∙ take-append-drop (size d) _ in
+    run-settings xs d ∙ (λ j. record { config = d .config; switch = on j; count = d .count; slots = all j }) ∙ sym (run-settings ys d)

@@ -1,1 +1,0 @@
-// The corners of claims, target masks and releases, computed from the definitions. There is no code here.

@@ -1,0 +1,2 @@
+// Places in the table of SPIs.
+pub mod place;

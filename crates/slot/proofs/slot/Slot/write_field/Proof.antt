@@ -1,0 +1,39 @@
+use mathlib.Core.Path.{refl, sym, ap, ap₂, _∙_}
+use mathlib.Core.Bool.{_&&_}
+use Rattle.interrupt.specs.Life.{deliverableIn}
+use Rattle.slot.specs.declared.slot.Slot.{Slot}
+use borrow.Author.Needs.{needs}
+use Rattle.slot.proofs.slot.Slot.write_field.Statement.{statement}
+use Rattle.slot.proofs.slot.Slot.write_field.Tie as tie
+
+touched-requires : tie.Need-touched-requires
+touched-requires c κs = search needs
+
+written-requires : tie.Need-written-requires
+written-requires c κs = search needs
+
+lists-requires : tie.Need-lists-requires
+lists-requires c κs = search needs
+
+listed-by-switch-requires : tie.Need-listed-by-switch-requires
+listed-by-switch-requires c κs = search needs
+
+returns : tie.Need-returns
+returns c =
+    let w = c .before .before in
+    let t = sym (w .before .before .touched .ensures) ∙ w .before .if1 .taken in
+    rw t (w .written .ensures, ap₂ _&&_ (c .before .lists .ensures) (c .listed-by-switch .ensures ∙ ap (λ (s : Slot). deliverableIn (s .interrupt)) (w .written .ensures)))
+
+returns-2 : tie.Need-returns-2
+returns-2 c = let t = sym (c .before .touched .ensures) ∙ c .if1 .left in rw t (refl, refl)
+
+pub write-field-spec : {M : Type 1} → statement M
+write-field-spec =
+    tie.close
+    (tie.spec
+    touched-requires
+    written-requires
+    lists-requires
+    listed-by-switch-requires
+    returns
+    returns-2)
