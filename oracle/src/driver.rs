@@ -30,7 +30,7 @@ struct Made {
 
 impl Machine for Oracle {
     fn run(&mut self, call: &Call) -> Answer {
-        let mut answer = self.bare(call);
+        let mut answer = self.answer(call).unwrap_or_else(refusal);
         if call.op == Op::Write {
             answer.lent = answer.candidates.clone();
             answer.lent.resize(call.args[3] as usize, UNTOUCHED);
@@ -69,12 +69,7 @@ impl Machine for Oracle {
 
 impl Oracle {
     /// The answer without the lent list, which the Rust does not have: it hands
-    /// back a list of its own.
-    pub fn bare(&mut self, call: &Call) -> Answer {
-        self.answer(call).unwrap_or_else(refusal)
-    }
-
-    /// A row a call. `done` is for those without a value.
+    /// back a list of its own. A row a call; `done` is for those without a value.
     #[allow(clippy::unit_arg)]
     fn answer(&mut self, call: &Call) -> VgicResult<Answer> {
         let [a, b, c, d] = call.args;
@@ -150,25 +145,10 @@ impl Oracle {
     }
 
     fn create(&mut self, call: &Call) -> VgicResult<Answer> {
-        let [count, settings, frame_size, lpi_limit] = call.args;
-        let flag = |at: u32| settings >> at & 1 != 0;
         self.made = None;
         self.made = Some(Made {
-            state: DistributorState::new(count as usize)?,
-            config: ControllerConfig {
-                spi_count: word(count),
-                ownership: if flag(0) {
-                    GicV3SpiOwnership::ExplicitClaims
-                } else {
-                    GicV3SpiOwnership::AllGuestOwned
-                },
-                frame_size,
-                lpi: flag(1),
-                its: flag(2),
-                lpi_limit: word(lpi_limit),
-                level_3: flag(3),
-                range: flag(4),
-            },
+            state: DistributorState::new(call.args[0] as usize)?,
+            config: config(call),
         });
         Ok(Answer::default())
     }
@@ -208,8 +188,28 @@ impl Oracle {
     }
 }
 
+/// The settings of a creation.
+pub(crate) fn config(call: &Call) -> ControllerConfig {
+    let [count, settings, frame_size, lpi_limit] = call.args;
+    let flag = |at: u32| settings >> at & 1 != 0;
+    ControllerConfig {
+        spi_count: word(count),
+        ownership: if flag(0) {
+            GicV3SpiOwnership::ExplicitClaims
+        } else {
+            GicV3SpiOwnership::AllGuestOwned
+        },
+        frame_size,
+        lpi: flag(1),
+        its: flag(2),
+        lpi_limit: word(lpi_limit),
+        level_3: flag(3),
+        range: flag(4),
+    }
+}
+
 /// Refusals 3 and 4 are one error in the Rust. Only its text tells them apart.
-fn refusal(error: VgicError) -> Answer {
+pub(crate) fn refusal(error: VgicError) -> Answer {
     let (kind, payload) = match error {
         VgicError::InvalidIntId { raw } => (1, raw.into()),
         VgicError::ResourceConflict { .. } => (2, 0),
@@ -334,7 +334,7 @@ fn trigger(number: u64) -> TriggerMode {
     }
 }
 
-fn width(bytes: u64) -> AccessWidth {
+pub(crate) fn width(bytes: u64) -> AccessWidth {
     match bytes {
         1 => AccessWidth::Byte,
         2 => AccessWidth::Word,

@@ -1,8 +1,8 @@
 //! The original Rust, run as the judge of the port.
 //!
 //! The four files of arm_vgic are compiled unchanged, where they lie. What they
-//! lean on is in `stand_ins`; `driver` runs calls on them; the rest chooses
-//! calls, prints the answers and counts what was met.
+//! lean on is in `stand_ins`; `driver` runs calls on them, and `straight` times
+//! them; the rest chooses calls, prints the answers and counts what was met.
 
 extern crate alloc;
 // distributor.rs takes the access width from this crate.
@@ -21,6 +21,7 @@ pub mod rattle;
 pub mod reach;
 pub mod registers;
 mod stand_ins;
+pub mod straight;
 
 mod controller {
     pub(crate) use crate::stand_ins::ControllerConfig;

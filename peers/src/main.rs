@@ -27,7 +27,7 @@ fn main() -> ExitCode {
         None => default,
     };
     let (seed, calls) = (number(0, 1), number(1, 10_000));
-    if numbers.len() > 2 {
+    if numbers.len() > 2 || calls == 0 {
         usage();
     }
     let mut machine = match wrong {

@@ -1,16 +1,16 @@
 //! `bench [CALLS] [REPEATS]` times mixed reads and writes on the Rust and on the
 //! Rattle Distributor, and prints how many times as long the one takes as the
-//! other. A sum of all answers has to be the same.
+//! other. A sum of all answers has to be the same, so that no optimiser can leave
+//! any of them out.
 
-use std::{env, process, time::Instant};
+use std::{env, hint::black_box, process, time::Instant};
 
 use oracle::{
     calls::{Call, Op},
-    driver::Oracle,
     generate::Random,
-    machine::Machine as _,
     rattle,
     registers::{BANKS, Bank},
+    straight::Accesses,
 };
 
 const SEED: u64 = 1;
@@ -22,7 +22,7 @@ fn main() {
         None => otherwise,
     };
     let (count, repeats) = (number(0, 1_000_000), number(1, 5));
-    if args.len() > 2 || repeats == 0 {
+    if args.len() > 2 || count == 0 || repeats == 0 {
         usage();
     }
     println!("{count} reads and writes, all guest-owned, {repeats} repeats; ns a call");
@@ -32,12 +32,12 @@ fn main() {
     );
     for spis in [988, 40] {
         let calls = mixed(spis, count);
-        let bytes = rattle::encode(&calls);
+        let (accesses, bytes) = (Accesses::new(&calls), rattle::encode(&calls));
         let mut times = [Vec::new(), Vec::new()];
         for _ in 0..repeats {
             let sums = [
-                timed(&mut times[0], || run(&calls)),
-                timed(&mut times[1], || rattle::bench(&bytes)),
+                timed(&mut times[0], || black_box(&accesses).sum()),
+                timed(&mut times[1], || rattle::bench(black_box(&bytes))),
             ];
             if sums[0] != sums[1] {
                 println!(
@@ -67,26 +67,6 @@ fn timed(times: &mut Vec<f64>, run: impl FnOnce() -> u64) -> u64 {
     let began = Instant::now();
     let sum = run();
     times.push(began.elapsed().as_secs_f64());
-    sum
-}
-
-/// The same sum as the library's.
-fn run(calls: &[Call]) -> u64 {
-    let mut oracle = Oracle::default();
-    oracle.run(&calls[0]);
-    let mut sum = 0u64;
-    for call in &calls[1..] {
-        let answer = oracle.bare(call);
-        let words = [
-            answer.kind.into(),
-            answer.payload,
-            answer.candidates.len() as u64,
-        ];
-        let candidates = answer.candidates.iter().map(|&intid| intid.into());
-        for word in words.into_iter().chain(candidates) {
-            sum = sum.rotate_left(1).wrapping_add(word);
-        }
-    }
     sum
 }
 

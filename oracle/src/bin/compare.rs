@@ -36,7 +36,7 @@ fn main() -> ExitCode {
         None => otherwise,
     };
     let (first, count) = (number(0, 1), number(1, 1_000_000));
-    if args.len() > 2 {
+    if args.len() > 2 || count == 0 {
         usage();
     }
     let began = Instant::now();

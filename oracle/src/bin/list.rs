@@ -15,6 +15,9 @@ fn main() -> io::Result<()> {
     let (Some(seed), Some(sequences), Some(calls)) = (number(0), number(1), number(2)) else {
         usage()
     };
+    if sequences == 0 || calls == 0 {
+        usage();
+    }
     let count = match &args[3..] {
         [] => false,
         [flag] if flag == "--coverage" => true,
