@@ -5,10 +5,10 @@ use crate::call::Call;
 use crate::number::has;
 use crate::number::low_word;
 use crate::run::Ran;
-use distributor::create::CreateAnswer;
-use distributor::distributor::DistributorState;
 use controller::controller::ControllerConfig;
 use controller::controller::GicV3SpiOwnership;
+use distributor::create::CreateAnswer;
+use distributor::distributor::DistributorState;
 
 // Before any creation there is a Distributor with no SPIs, as after one that is refused.
 pub fn nothing() -> DistributorState {

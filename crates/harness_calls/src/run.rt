@@ -30,10 +30,7 @@ pub fn run(d: DistributorState, call: Call, room: &mut [u32]) -> Ran {
         Family::Read => kept(d, guest::read(d.read(call.a, guest::width(call.b)))),
         Family::Write => write(d, call, room),
         Family::Switch => kept(d, answer::done(bit(d.is_switched_on()))),
-        Family::Rollback => kept(
-            d.set_enabled_for_rollback(has(call.a, 1)),
-            answer::done(0),
-        ),
+        Family::Rollback => kept(d.set_enabled_for_rollback(has(call.a, 1)), answer::done(0)),
         Family::Change => change_spi(d, call),
         Family::Question => kept(d, ask_spi(d, call)),
         Family::Unknown => kept(d, answer::unknown()),

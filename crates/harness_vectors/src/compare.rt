@@ -8,8 +8,8 @@ use harness_calls::answer::Answer;
 use harness_calls::number::bit;
 use harness_calls::number::wide_word;
 use harness_calls::packed;
-use slot::slot::Slot;
 use place::place::SPIS;
+use slot::slot::Slot;
 
 // What stands in each place of the list when it is lent. It is no INTID.
 pub const UNTOUCHED: u32 = 0xffff_ffff;

@@ -24,7 +24,11 @@ pub enum PlaceAnswer {
 pub fn table_size(count: u32) -> u32
     ensures { λ r. ⌜ r ≡ tableSize count ⌝ }
 {
-    if count < SPIS as u32 { count } else { SPIS as u32 }
+    if count < SPIS as u32 {
+        count
+    } else {
+        SPIS as u32
+    }
 }
 
 // Whether that table has INTID i.

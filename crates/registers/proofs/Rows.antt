@@ -202,9 +202,9 @@ unfolding every sized
 each-bounded [] ok d o w = tt
 each-bounded (r ∷ rs) ok d o w = (
   (λ h t.
-  let n = between r o h in
-  let y = leb-true (r .end) (r .from + 0x2000) (both (ltb 0 (r .every)) _ (both (sized r) _ ok .0) .1) in
-  kind-bounded (r .kind) (o - r .from) w (omega arith)),
+      let n = between r o h in
+      let y = leb-true (r .end) (r .from + 0x2000) (both (ltb 0 (r .every)) _ (both (sized r) _ ok .0) .1) in
+      kind-bounded (r .kind) (o - r .from) w (omega arith)),
   each-bounded rs (both (sized r) _ ok .1) d o w,
 )
 

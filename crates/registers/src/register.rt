@@ -179,6 +179,27 @@ impl Row {
     }
 }
 
+// The banks by Arm's names.
+const IGROUPR: Bank = Bank::Replace(Field::Group);
+
+const ISENABLER: Bank = Bank::Set(Flag::Enabled);
+
+const ICENABLER: Bank = Bank::Clear(Flag::Enabled);
+
+const ISPENDR: Bank = Bank::Set(Flag::Pending);
+
+const ICPENDR: Bank = Bank::Clear(Flag::Pending);
+
+const ISACTIVER: Bank = Bank::Set(Flag::Active);
+
+const ICACTIVER: Bank = Bank::Clear(Flag::Active);
+
+const IPRIORITYR: Bank = Bank::Replace(Field::Priority);
+
+const ICFGR: Bank = Bank::Replace(Field::Configuration);
+
+const IROUTER: Bank = Bank::Replace(Field::Route);
+
 // The map. A row past the last holds nothing.
 fn map_row(k: usize) -> Row
     ensures { λ r. ⌜ r ≡ getD map k noRow ⌝ }
@@ -191,16 +212,16 @@ fn map_row(k: usize) -> Row
         1 => Row::new(0x0000, 0x0001, 1, dword, dword, Kind::Ctlr),
         2 => Row::new(0x0004, 0x0005, 1, dword, any, Kind::Typer),
         3 => Row::new(0x0008, 0x0009, 1, dword, any, Kind::Iidr),
-        4 => Row::new(0x0080, 0x0100, 4, dword, any, Kind::Bank(Bank::Replace(Field::Group))),
-        5 => Row::new(0x0100, 0x0180, 4, dword, dword, Kind::Bank(Bank::Set(Flag::Enabled))),
-        6 => Row::new(0x0180, 0x0200, 4, dword, dword, Kind::Bank(Bank::Clear(Flag::Enabled))),
-        7 => Row::new(0x0200, 0x0280, 4, dword, dword, Kind::Bank(Bank::Set(Flag::Pending))),
-        8 => Row::new(0x0280, 0x0300, 4, dword, dword, Kind::Bank(Bank::Clear(Flag::Pending))),
-        9 => Row::new(0x0300, 0x0380, 4, dword, dword, Kind::Bank(Bank::Set(Flag::Active))),
-        10 => Row::new(0x0380, 0x0400, 4, dword, dword, Kind::Bank(Bank::Clear(Flag::Active))),
-        11 => Row::new(0x0400, 0x07fc, 1, any, any, Kind::Bank(Bank::Replace(Field::Priority))),
-        12 => Row::new(0x0c00, 0x0d00, 4, dword, dword, Kind::Bank(Bank::Replace(Field::Configuration))),
-        13 => Row::new(0x6000, 0x7fe0, 1, qword, qword, Kind::Bank(Bank::Replace(Field::Route))),
+        4 => Row::new(0x0080, 0x0100, 4, dword, any, Kind::Bank(IGROUPR)),
+        5 => Row::new(0x0100, 0x0180, 4, dword, dword, Kind::Bank(ISENABLER)),
+        6 => Row::new(0x0180, 0x0200, 4, dword, dword, Kind::Bank(ICENABLER)),
+        7 => Row::new(0x0200, 0x0280, 4, dword, dword, Kind::Bank(ISPENDR)),
+        8 => Row::new(0x0280, 0x0300, 4, dword, dword, Kind::Bank(ICPENDR)),
+        9 => Row::new(0x0300, 0x0380, 4, dword, dword, Kind::Bank(ISACTIVER)),
+        10 => Row::new(0x0380, 0x0400, 4, dword, dword, Kind::Bank(ICACTIVER)),
+        11 => Row::new(0x0400, 0x07fc, 1, any, any, Kind::Bank(IPRIORITYR)),
+        12 => Row::new(0x0c00, 0x0d00, 4, dword, dword, Kind::Bank(ICFGR)),
+        13 => Row::new(0x6000, 0x7fe0, 1, qword, qword, Kind::Bank(IROUTER)),
         _ => Row::new(0, 0, 1, any, any, Kind::Ctlr),
     }
 }
@@ -232,13 +253,7 @@ pub fn decode(direction: Direction, frame: u64, offset: u64, width: AccessWidth)
 }
 
 // What a write reaches. Refusal 5 comes first: a lent list with fewer places than the table has SPIs.
-pub fn write_access(
-    places: usize,
-    spis: u32,
-    frame: u64,
-    offset: u64,
-    width: AccessWidth,
-) -> Access
+pub fn write_access(places: usize, spis: u32, frame: u64, offset: u64, width: AccessWidth) -> Access
     ensures { λ r. ⌜ r ≡ writeAccess places spis frame offset width ⌝ }
 {
     if places < spis as usize {
