@@ -30,7 +30,7 @@ beside p q h = by-cases (decLt q p)
     (λ l. let x : ltb q p ≡ true = lt-ltb q p l in let y : ltb q (p + 1) ≡ true = lt-ltb q (p + 1) (omega arith) in rw (x, y))
     (λ l. let x : ltb q p ≡ false = le-ltb q p (omega arith) in let y : ltb q (p + 1) ≡ false = le-ltb q (p + 1) (omega arith) in rw (x, y))
 
-pub one-made : (p raw : ℕ) (s : Slot) → raw ≡ 32 + min p 987 → p < capacity → s ≡ freshSpi raw → set (tabulate (partly p) 0 capacity) p s ≡ tabulate (partly (p + 1)) 0 capacity
+pub one-made : (p raw : ℕ) (s : Slot) → raw ≡ min (32 + p) 1019 → p < capacity → s ≡ freshSpi raw → set (tabulate (partly p) 0 capacity) p s ≡ tabulate (partly (p + 1)) 0 capacity
 one-made p raw s e l f =
     let x : ltb p (p + 1) ≡ true = lt-ltb p (p + 1) (omega arith) in
     let w : raw ≡ 32 + p = omega arith in

@@ -12,11 +12,11 @@ use Rattle.interrupt.specs.Life.{deliverableIn}
 use Rattle.slot.specs.declared.slot.Slot.{Slot}
 use Rattle.slot.specs.NoSlot.{noSlot}
 use Rattle.model.specs.Calls.{deliverableAt}
-use Rattle.distributor.specs.Loops.{Lists}
+use Rattle.distributor.specs.Loops.{LaidOut}
 
 -- a test, and a list that has room for all that pass it below `end`
 module _ (t : ℕ → Bool) (first : ℕ) (old : List ℕ) (end : ℕ) (fits : (i : ℕ) → i ≤ end → length (passing t first (i - first)) ≤ length old) where
-  pub list-size : (i : ℕ) (list : List ℕ) (count : ℕ) → i ≤ end → Lists (passing t first (i - first)) old list count → length list ≡ length old
+  pub list-size : (i : ℕ) (list : List ℕ) (count : ℕ) → i ≤ end → LaidOut (passing t first (i - first)) old list count → length list ≡ length old
   list-size i list count l h = ap length (h .0) ∙ length-laid (passing t first (i - first)) old (fits i l)
 
   more : (i : ℕ) → first ≤ i → t i ≡ true → passing t first (i + 1 - first) ≡ passing t first (i - first) ++ (i ∷ [])
@@ -32,7 +32,7 @@ module _ (t : ℕ → Bool) (first : ℕ) (old : List ℕ) (end : ℕ) (fits : (
       rw (z, add-one (i - first)) (passing-more t first (i - first) ∙ (rw (w, e) (append-nil (passing t first (i - first)))))
 
   -- there is room for the next one
-  pub list-room : (i : ℕ) (list : List ℕ) (count : ℕ) → first ≤ i → i < end → Lists (passing t first (i - first)) old list count → t i ≡ true → count < length list
+  pub list-room : (i : ℕ) (list : List ℕ) (count : ℕ) → first ≤ i → i < end → LaidOut (passing t first (i - first)) old list count → t i ≡ true → count < length list
   list-room i list count l b h e =
       let f = fits (i + 1) (omega arith) in
       let g : length (passing t first (i + 1 - first)) ≡ length (passing t first (i - first)) + 1 = ap length (more i l e) ∙ length-append (passing t first (i - first)) _ in
@@ -40,8 +40,8 @@ module _ (t : ℕ → Bool) (first : ℕ) (old : List ℕ) (end : ℕ) (fits : (
       let c = h .1 in
       omega arith
 
-  pub list-more : (i : ℕ) (list : List ℕ) (count : ℕ) (on : Bool) → first ≤ i → i < end → Lists (passing t first (i - first)) old list count → on ≡ t i
-      → Lists (passing t first (i + 1 - first)) old (cond on (set list count i) list) (cond on (count + 1) count)
+  pub list-more : (i : ℕ) (list : List ℕ) (count : ℕ) (on : Bool) → first ≤ i → i < end → LaidOut (passing t first (i - first)) old list count → on ≡ t i
+      → LaidOut (passing t first (i + 1 - first)) old (cond on (set list count i) list) (cond on (count + 1) count)
   list-more i list count true l b h e =
       let r = list-room i list count l b h (sym e) in
       let k = list-size i list count (omega arith) h in

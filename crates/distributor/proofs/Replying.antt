@@ -28,7 +28,7 @@ use Rattle.model.specs.Calls.{Distributor, Reply, size, write, unless, listing,
 use Rattle.distributor.specs.declared.distributor.DistributorState.{DistributorState}
 use Rattle.distributor.specs.declared.access.Wrote.{Wrote}
 use Rattle.distributor.specs.Model.{modelOf}
-use Rattle.distributor.specs.Loops.{withSlots, Lists}
+use Rattle.distributor.specs.Loops.{withSlots, LaidOut}
 use Rattle.distributor.specs.Writes.{afterWrite, Writes}
 
 -- a map that leaves every slot alone leaves the Distributor alone
@@ -44,7 +44,7 @@ unless-beyond (At k) (i ∷ is) a e = let z : k ≡ i = cc in rw z
 
 -- the same of a write and its list: where it is refused, the loop was told to list nothing
 listing-beyond : (x : Beyond) (l : List ℕ) (t : ℕ → Bool) (lo m : ℕ) (old new : List ℕ) (n : ℕ) (d : Distributor) → toldBeyond x ≡ firstOf l
-    → Lists (passing (λ i. listsUnless x && t i) lo m) old new n
+    → LaidOut (passing (λ i. listsUnless x && t i) lo m) old new n
     → _≡_ {A = Reply} (record { answer = unlessBeyond x (done (n ∷ [])); list = new }) (listingUnless d l (passing t lo m) old)
 listing-beyond Nothing [] t lo m old new n d e h = rw (h .0, h .1)
 listing-beyond Nothing (i ∷ is) t lo m old new n d e h = cc
@@ -56,10 +56,10 @@ listing-beyond (At k) (i ∷ is) t lo m old new n d e h =
     rw (z, same)
 
 pub bank-told : (x : Beyond) (l : List ℕ) (t : ℕ → Bool) (lo m : ℕ) (old new : List ℕ) (n : ℕ) (d : Distributor) (a : Answer) (tells : Bool) → toldBeyond x ≡ firstOf l → tells ≡ listsUnless x
-    → Lists (passing (λ i. tells && t i) lo m) old new n → a ≡ unlessBeyond x (done (n ∷ []))
+    → LaidOut (passing (λ i. tells && t i) lo m) old new n → a ≡ unlessBeyond x (done (n ∷ []))
     → _≡_ {A = Reply} (record { answer = a; list = new }) (listingUnless d l (passing t lo m) old)
 bank-told x l t lo m old new n d a tells e k h q =
-    let told : Lists (passing (λ i. listsUnless x && t i) lo m) old new n = subst (λ (y : Bool). Lists (passing (λ i. y && t i) lo m) old new n) k h in
+    let told : LaidOut (passing (λ i. listsUnless x && t i) lo m) old new n = subst (λ (y : Bool). LaidOut (passing (λ i. y && t i) lo m) old new n) k h in
     ap (λ (r : Answer). record { answer = r; list = new }) q ∙ listing-beyond x l t lo m old new n d e told
 
 module _ (d : DistributorState) (v : ℕ) (list : List ℕ) (r : Wrote) where

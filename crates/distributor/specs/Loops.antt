@@ -11,5 +11,5 @@ abbrev pub withSlots : DistributorState → List Slot → DistributorState
 withSlots d l = record { config = d .config; enabled = d .enabled; «spi_count» = d .«spi_count»; slots = l }
 
 -- the list `new` is the list `old` with the candidates in its first places, and n is their number
-abbrev pub Lists : List ℕ → List ℕ → List ℕ → ℕ → Type 0
-Lists candidates old new n = (new ≡ laid candidates old) × (n ≡ length candidates)
+abbrev pub LaidOut : List ℕ → List ℕ → List ℕ → ℕ → Type 0
+LaidOut candidates old new n = (new ≡ laid candidates old) × (n ≡ length candidates)

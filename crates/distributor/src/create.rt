@@ -52,7 +52,7 @@ impl DistributorState {
         }
     }
 
-    // A Distributor of so many SPIs. More than 988 are refused, carrying 1020, the first INTID past the SPIs.
+    // A Distributor of so many SPIs. More than a table has room for are refused, carrying 1020, the first INTID past the SPIs.
     pub fn new(config: ControllerConfig, spi_count: u32) -> Created
         ensures state { λ r. ⌜ modelOf (r .state) ≡ created config (cond (leb «spi_count» capacity) «spi_count» 0) ⌝ }
         ensures answer { λ r. ⌜ toldCreate (r .answer) ≡ createAnswer «spi_count» ⌝ }

@@ -16,7 +16,7 @@ ghost use Rattle.bank.specs.Banks.{bitsOf};
 ghost use Rattle.controller.specs.Ownership.{explicit};
 ghost use Rattle.slot.specs.BankRule.{bankValue, bankSlot, candidate};
 ghost use Rattle.model.specs.Calls.{deliverableAt};
-ghost use Rattle.distributor.specs.Loops.{withSlots, Lists};
+ghost use Rattle.distributor.specs.Loops.{withSlots, LaidOut};
 
 // Only this crate makes one or changes its fields: a claim cannot be forged, and nothing but a call changes an SPI.
 pub struct DistributorState {
@@ -103,7 +103,7 @@ pub(crate) fn write_fields(
     list: &mut [u32],
 ) -> Listed
     requires { ⌜ (lo < 0x10000) × (m ≤ 64) × (tableSize (d .«spi_count») ≤ length (now list)) ⌝ }
-    ensures { λ r. ⌜ (r .state ≡ withSlots d (mapAt (λ p. bankSlot (explicit (d .config .«spi_ownership»)) (tableSize (d .«spi_count»)) bank value lo m (32 + p)) (d .slots))) × Lists (passing (λ i. tells && candidate (explicit (d .config .«spi_ownership»)) (tableSize (d .«spi_count»)) bank value lo m (d .slots) i) lo m) (now (list .entry)) (now (list .exit)) (r .count) ⌝ }
+    ensures { λ r. ⌜ (r .state ≡ withSlots d (mapAt (λ p. bankSlot (explicit (d .config .«spi_ownership»)) (tableSize (d .«spi_count»)) bank value lo m (32 + p)) (d .slots))) × LaidOut (passing (λ i. tells && candidate (explicit (d .config .«spi_ownership»)) (tableSize (d .«spi_count»)) bank value lo m (d .slots) i) lo m) (now (list .entry)) (now (list .exit)) (r .count) ⌝ }
 {
     let explicit = d.is_explicit();
     let span = Span::new(d.spi_count, lo, m);
@@ -128,10 +128,10 @@ pub(crate) fn write_fields(
     }
 }
 
-// Lists every deliverable SPI of the table.
+// LaidOut every deliverable SPI of the table.
 pub(crate) fn list_deliverable(d: DistributorState, list: &mut [u32]) -> usize
     requires { ⌜ tableSize (d .«spi_count») ≤ length (now list) ⌝ }
-    ensures { λ r. ⌜ Lists (passing (deliverableAt (d .slots)) 32 (tableSize (d .«spi_count»))) (now (list .entry)) (now (list .exit)) r ⌝ }
+    ensures { λ r. ⌜ LaidOut (passing (deliverableAt (d .slots)) 32 (tableSize (d .«spi_count»))) (now (list .entry)) (now (list .exit)) r ⌝ }
 {
     let end = 32 + d.size();
     let mut count: usize = 0;

@@ -7,15 +7,15 @@ use Rattle.identifiers.specs.declared.types.InterruptState.{InterruptSta
 use Rattle.identifiers.specs.declared.types.InterruptState.the-variants.{Inactive, Pending, Active, ActivePending}
 use Rattle.identifiers.specs.States.{stateNumber}
 
-stateWith : ℕ → InterruptState
-stateWith n = cond (eqb n 0) Inactive (cond (eqb n 1) Pending (cond (eqb n 2) Active ActivePending))
+stateNumbered : ℕ → InterruptState
+stateNumbered n = cond (eqb n 0) Inactive (cond (eqb n 1) Pending (cond (eqb n 2) Active ActivePending))
 
-stateWith-number : (t : InterruptState) → stateWith (stateNumber t) ≡ t
-unfolding stateWith
-stateWith-number Inactive = refl
-stateWith-number Pending = refl
-stateWith-number Active = refl
-stateWith-number ActivePending = refl
+stateNumbered-number : (t : InterruptState) → stateNumbered (stateNumber t) ≡ t
+unfolding stateNumbered
+stateNumbered-number Inactive = refl
+stateNumbered-number Pending = refl
+stateNumbered-number Active = refl
+stateNumbered-number ActivePending = refl
 
 pub state-same : (s t : InterruptState) → stateNumber s ≡ stateNumber t → s ≡ t
-state-same s t e = sym (stateWith-number s) ∙ ap stateWith e ∙ stateWith-number t
+state-same s t e = sym (stateNumbered-number s) ∙ ap stateNumbered e ∙ stateNumbered-number t

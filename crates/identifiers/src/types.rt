@@ -82,9 +82,13 @@ impl PpiId {
 impl SpiId {
     // The k-th, counted from 0; past the last, the last.
     pub fn nth(k: u32) -> Self
-        ensures { λ r. ⌜ r .0 ≡ 32 + min k 987 ⌝ }
+        ensures { λ r. ⌜ r .0 ≡ min (32 + k) 1019 ⌝ }
     {
-        if k < 987 { SpiId(32 + k) } else { SpiId(1019) }
+        if k < 1019 - 32 {
+            SpiId(32 + k)
+        } else {
+            SpiId(1019)
+        }
     }
 
     pub fn new(raw: u32) -> SpiIdAnswer

@@ -61,7 +61,7 @@ plain a = record { answer = a; list = [] }
 abbrev pub created : ControllerConfig → ℕ → Distributor
 created c n = record { config = c; switch = false; count = n; slots = tabulate (λ p. freshSpi (32 + p)) 0 capacity }
 
--- more than 988 SPIs are refused 1, with the first INTID that is no SPI's
+-- more SPIs than a table has room for are refused 1, carrying the first INTID past the SPIs
 abbrev pub createAnswer : ℕ → Answer
 createAnswer n = cond (leb n capacity) (done []) (refused 1 (1020 ∷ []))
 

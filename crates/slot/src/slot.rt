@@ -160,7 +160,7 @@ impl Slot {
     }
 
     // A field touches an owned SPI, if it acts.
-    fn touched(self, explicit: bool, bank: Bank, field: u64) -> bool
+    fn is_touched(self, explicit: bool, bank: Bank, field: u64) -> bool
         ensures { λ r. ⌜ r ≡ touches explicit bank field self ⌝ }
     {
         bank.acts(field) & self.owned(explicit)
@@ -170,7 +170,7 @@ impl Slot {
     pub fn write_field(self, explicit: bool, bank: Bank, field: u64) -> FieldWritten
         ensures { λ r. ⌜ (r .slot ≡ fieldWritten explicit bank field self) × (r .listed ≡ fieldListed explicit bank field self) ⌝ }
     {
-        if self.touched(explicit, bank, field) {
+        if self.is_touched(explicit, bank, field) {
             let new = self.written(bank, field);
             FieldWritten {
                 slot: new,

@@ -6,14 +6,14 @@ use denote.Ref.{now}
 use Rattle.theory.specs.Lists.{passing}
 use Rattle.place.specs.Table.{tableSize}
 use Rattle.model.specs.Calls.{deliverableAt}
-use Rattle.distributor.specs.Loops.{Lists}
+use Rattle.distributor.specs.Loops.{LaidOut}
 use Rattle.distributor.proofs.Listing.{list-size, list-room, list-more, turns-fit, deliverable-at}
 use Rattle.distributor.proofs.distributor.list_deliverable.Statement.{statement}
 use Rattle.distributor.proofs.distributor.list_deliverable.Tie as tie
 
 abbrev Inv-loop : tie.InvT-loop
 Inv-loop list₀ d end count₀ i₀ list count i =
-    (32 ≤ i) × (i ≤ 32 + tableSize (d .«spi_count»)) × Lists (passing (deliverableAt (d .slots)) 32 (i - 32)) list₀ list count
+    (32 ≤ i) × (i ≤ 32 + tableSize (d .«spi_count»)) × LaidOut (passing (deliverableAt (d .slots)) 32 (i - 32)) list₀ list count
 
 abbrev μ-loop : tie.MeasureT-loop
 μ-loop list₀ d end count₀ i₀ list count i = end - i

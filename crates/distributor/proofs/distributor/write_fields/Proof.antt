@@ -8,7 +8,7 @@ use Rattle.place.specs.declared.place.Span.{Span}
 use Rattle.place.specs.Table.{tableSize}
 use Rattle.bank.specs.Banks.{bitsOf}
 use Rattle.bank.proofs.Digits.{used}
-use Rattle.distributor.specs.Loops.{withSlots, Lists}
+use Rattle.distributor.specs.Loops.{withSlots, LaidOut}
 use Rattle.distributor.proofs.Listing.{list-size, list-room, list-more, table-fits}
 use Rattle.distributor.proofs.Writing.{swept, none-yet, all-written, one-more, E, N, test, test-in, all-listed, state-more, on-more}
 use Rattle.distributor.proofs.distributor.write_fields.Statement.{statement}
@@ -18,7 +18,7 @@ abbrev Inv-loop : tie.InvT-loop
 Inv-loop bank lo m value tells list₀ d₀ ex first end v₀ count₀ i₀ list d v count i =
     (max lo 32 ≤ i) × (i ≤ max (max lo 32) (min (lo + m) (32 + N d₀ bank lo m value tells))) × (v ≡ value / (2 ^ bitsOf bank) ^ (i - lo))
     × (d ≡ withSlots d₀ (swept (E d₀ bank lo m value tells) (N d₀ bank lo m value tells) bank value lo (d₀ .slots) i))
-    × Lists (passing (test d₀ bank lo m value tells) (max lo 32) (i - max lo 32)) list₀ list count
+    × LaidOut (passing (test d₀ bank lo m value tells) (max lo 32) (i - max lo 32)) list₀ list count
 
 abbrev μ-loop : tie.MeasureT-loop
 μ-loop bank lo m value tells list₀ d₀ ex first end v₀ count₀ i₀ list d v count i = end - i
