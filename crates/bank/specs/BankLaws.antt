@@ -1,5 +1,5 @@
 -- Laws of packed fields, and of what is answered beyond the table.
-use Prim.Native.Nat.{ℕ, zero, suc, _+_, _-_, _*_, _^_, _≤_, _<_, min}
+use Prim.Native.Nat.{ℕ, zero, suc, _+_, _-_, _^_, _≤_, _<_, min}
 use mathlib.Core.Path.{_≡_, refl, ap}
 use mathlib.Core.Logic.{by-cases}
 use native.Mathlib.Nat.{zero-mul}

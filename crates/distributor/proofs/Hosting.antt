@@ -11,7 +11,7 @@ use lib.Dec.{eqb}
 use lib.ListN.{getD, set}
 use Rattle.theory.specs.Lists.{mapAt}
 use Rattle.theory.specs.MapAtLaws.{mapAt-edit, mapAt-still}
-use Rattle.identifiers.specs.Answer.{refused, toldRefusal}
+use Rattle.identifiers.specs.Answer.{refused}
 use Rattle.identifiers.specs.declared.error.Refusal.the-variants.{InvalidIntId}
 use Rattle.place.specs.Table.{inTable}
 use Rattle.place.specs.TableLaws.{in-range}

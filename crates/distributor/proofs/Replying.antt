@@ -10,7 +10,7 @@ use lib.ListN.{length}
 use Rattle.theory.specs.Lists.{mapAt, laid, passing}
 use Rattle.theory.specs.ListLaws.{passing-never}
 use Rattle.theory.specs.MapAtLaws.{mapAt-still}
-use Rattle.identifiers.specs.Answer.{Answer, done, refused}
+use Rattle.identifiers.specs.Answer.{Answer, done}
 use Rattle.identifiers.specs.declared.error.Refusal.{Refusal}
 use Rattle.identifiers.specs.declared.error.Refusal.the-variants.{ShortList}
 use Rattle.bank.specs.declared.bank.Beyond.{Beyond}

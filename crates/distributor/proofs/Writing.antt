@@ -5,7 +5,7 @@ use mathlib.Core.Logic.{_≢_, by-cases}
 use mathlib.Core.Bool.{Bool, true, false, _&&_, false≢true}
 use mathlib.Core.List.{List}
 use native.Mathlib.Omega.{arith}
-use native.Mathlib.Decide.{decLe, decLt}
+use native.Mathlib.Decide.{decLt}
 use borrow.Author.Tests.{le-leb, lt-leb, lt-ltb, le-ltb}
 use lib.Dec.{leb, ltb}
 use lib.ListN.{getD, set}
@@ -17,7 +17,6 @@ use Rattle.place.specs.Table.{inTable, tableSize}
 use Rattle.controller.specs.Ownership.{explicit}
 use Rattle.bank.specs.declared.bank.Bank.{Bank}
 use Rattle.bank.specs.Banks.{bitsOf, field}
-use Rattle.bank.proofs.Digits.{field-at}
 use Rattle.slot.specs.declared.slot.Slot.{Slot}
 use Rattle.slot.specs.Slots.{fieldWritten, fieldListed}
 use Rattle.slot.specs.NoSlot.{noSlot}

@@ -1,5 +1,4 @@
 -- No two states of the code are the same Distributor, and no two answers are told alike: a promise leaves no second result.
-use Prim.Native.Nat.{ℕ}
 use mathlib.Core.Path.{_≡_, refl, ap}
 use mathlib.Core.Bool.{Bool, true, false}
 use mathlib.Core.List.{[], _∷_}

@@ -4,10 +4,10 @@ use crate::sequence::CALL;
 use crate::sequence::PLACES;
 use crate::sequence::call_at;
 use distributor::distributor::DistributorState;
-use harness_calls::answer::Answer;
 use harness_calls::create;
-use harness_calls::guest;
-use harness_calls::number::wide_word;
+use harness_numbers::answer::Answer;
+use harness_numbers::guest;
+use harness_numbers::number::wide_word;
 
 // The first call is a creation, and each of the others a read or a write, which is lent all places. Answers a sum of all that they
 // answered, so that none can be left out.

@@ -11,13 +11,13 @@ use crate::little_endian::put_byte;
 use crate::little_endian::put_eight;
 use crate::little_endian::put_four;
 use distributor::distributor::DistributorState;
-use harness_calls::answer::Answer;
-use harness_calls::call::Call;
 use harness_calls::create;
-use harness_calls::number::bit;
-use harness_calls::number::wide_word;
-use harness_calls::packed;
 use harness_calls::run;
+use harness_numbers::answer::Answer;
+use harness_numbers::call::Call;
+use harness_numbers::number::bit;
+use harness_numbers::number::wide_word;
+use harness_numbers::packed;
 use place::place::SPIS;
 use slot::slot::Slot;
 

@@ -1,11 +1,3 @@
-// The calls as numbers, run on a Distributor, and what is seen of them as numbers (docs/ORACLE.md, "The calls").
-pub mod answer;
-pub mod call;
-pub mod change;
+// The calls as numbers, run on a Distributor (docs/ORACLE.md, "The calls").
 pub mod create;
-pub mod guest;
-pub mod identifier;
-pub mod number;
-pub mod packed;
-pub mod question;
 pub mod run;

@@ -1,18 +1,18 @@
 // A call, run on a Distributor.
-use crate::answer;
-use crate::answer::Answer;
-use crate::call;
-use crate::call::Call;
-use crate::call::Family;
-use crate::change;
 use crate::create;
-use crate::guest;
-use crate::identifier;
-use crate::number::bit;
-use crate::number::has;
-use crate::number::low_word;
-use crate::question;
 use distributor::distributor::DistributorState;
+use harness_numbers::answer;
+use harness_numbers::answer::Answer;
+use harness_numbers::call;
+use harness_numbers::call::Call;
+use harness_numbers::call::Family;
+use harness_numbers::change;
+use harness_numbers::guest;
+use harness_numbers::identifier;
+use harness_numbers::number::bit;
+use harness_numbers::number::has;
+use harness_numbers::number::low_word;
+use harness_numbers::question;
 use identifiers::types::SpiId;
 use identifiers::types::SpiIdAnswer;
 

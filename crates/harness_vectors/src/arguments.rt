@@ -1,8 +1,8 @@
 // What the arguments of a call may be (docs/ORACLE.md, "The calls"), and how many candidates it may list.
 use crate::line::Seen;
-use harness_calls::call;
-use harness_calls::call::Call;
-use harness_calls::call::Family;
+use harness_numbers::call;
+use harness_numbers::call::Call;
+use harness_numbers::call::Family;
 
 const ANY: u64 = 0xffff_ffff_ffff_ffff;
 

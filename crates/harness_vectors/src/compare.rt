@@ -4,10 +4,10 @@ use crate::line;
 use crate::line::CANDIDATES;
 use crate::line::Seen;
 use crate::line::WORDS;
-use harness_calls::answer::Answer;
-use harness_calls::number::bit;
-use harness_calls::number::wide_word;
-use harness_calls::packed;
+use harness_numbers::answer::Answer;
+use harness_numbers::number::bit;
+use harness_numbers::number::wide_word;
+use harness_numbers::packed;
 use place::place::SPIS;
 use slot::slot::Slot;
 

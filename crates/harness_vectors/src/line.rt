@@ -1,5 +1,5 @@
 // A line of a list, as words: the call, and what was seen of it.
-use harness_calls::call::Call;
+use harness_numbers::call::Call;
 
 // The most words of a line: ten, a candidate for each of 988 SPIs, and a place and a slot for each, fit.
 pub const WORDS: usize = 4096;

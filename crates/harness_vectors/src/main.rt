@@ -14,7 +14,7 @@ use crate::lexer::BUFFER;
 use crate::line::WORDS;
 use crate::run::Run;
 use harness_calls::create;
-use harness_calls::packed::FRESH;
+use harness_numbers::packed::FRESH;
 use place::place::SPIS;
 
 fn main() {

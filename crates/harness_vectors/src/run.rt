@@ -9,7 +9,7 @@ use crate::line;
 use crate::line::WORDS;
 use crate::report;
 use crate::table;
-use harness_calls::packed::FRESH;
+use harness_numbers::packed::FRESH;
 use libc::STDIN_FILENO;
 use place::place::SPIS;
 

@@ -1,5 +1,5 @@
 -- Affinity and MPIDR: packing loses nothing, and unpacking keeps bits 39..32 and 23..0.
-use Prim.Native.Nat.{ℕ, _+_, _*_, _/_, _%_, _^_, _<_}
+use Prim.Native.Nat.{ℕ, _+_, _*_, _%_, _^_, _<_}
 use mathlib.Core.Path.{_≡_}
 use native.Mathlib.Omega.{arith}
 use Rattle.identifiers.specs.declared.types.GicAffinity.{GicAffinity}

@@ -1,5 +1,4 @@
 -- No two answers of the host's changes are told alike.
-use Prim.Native.Nat.{ℕ}
 use mathlib.Core.Path.{_≡_, refl, ap}
 use Rattle.identifiers.specs.States.{stateNumber}
 use Rattle.identifiers.specs.StateLaws.{state-same}

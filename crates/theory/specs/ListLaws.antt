@@ -7,7 +7,7 @@ use mathlib.Core.List.{List, [], _∷_, _++_}
 use native.Mathlib.Nat.{le-of-suc-le-suc, not-suc-le-zero, add-zero, zero-add}
 use native.Mathlib.Decide.{decLe, decLt}
 use native.Mathlib.Omega.{arith}
-use lib.ListN.{length, getD, set, drop, replicate, length-append, length-drop}
+use lib.ListN.{length, getD, set, replicate, length-append, length-drop}
 use Rattle.theory.specs.Bools.{refuted}
 use Rattle.theory.specs.Lists.{tabulate, laid, passing}
 

@@ -1,5 +1,5 @@
 -- `read_fields` meets its contract: the value holds the fields from INTID i up to the end.
-use Prim.Native.Nat.{ℕ, _+_, _-_, _^_, _≤_, _<_, min, max}
+use Prim.Native.Nat.{_+_, _-_, _^_, _≤_, _<_, min, max}
 use mathlib.Core.Path.{_≡_, ap, _∙_}
 use native.Mathlib.Nat.{pow-zero}
 use native.Mathlib.Omega.{arith}

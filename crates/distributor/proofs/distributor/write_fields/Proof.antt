@@ -1,11 +1,10 @@
 -- `write_fields` meets its contract: the INTIDs below i are written, and their candidates are listed.
-use Prim.Native.Nat.{ℕ, _+_, _-_, _/_, _^_, _≤_, _<_, min, max}
+use Prim.Native.Nat.{_+_, _-_, _/_, _^_, _≤_, _<_, min, max}
 use mathlib.Core.Path.{_≡_, refl, sym, ap, _∙_}
 use native.Mathlib.Omega.{arith}
 use denote.Ref.{now}
 use Rattle.theory.specs.Lists.{passing}
 use Rattle.place.specs.declared.place.Span.{Span}
-use Rattle.place.specs.Table.{tableSize}
 use Rattle.bank.specs.Banks.{bitsOf}
 use Rattle.bank.proofs.Digits.{used}
 use Rattle.distributor.specs.Loops.{withSlots, LaidOut}

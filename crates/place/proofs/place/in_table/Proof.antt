@@ -1,4 +1,3 @@
-use mathlib.Core.Path.{_≡_, refl}
 use borrow.Author.Needs.{needs}
 use Rattle.place.proofs.place.in_table.Statement.{statement}
 use Rattle.place.proofs.place.in_table.Tie as tie

@@ -1,5 +1,5 @@
 -- `fields` meets its contract: a bank's field has 1 to 64 bits, so that nothing here passes 32 bits.
-use Prim.Native.Nat.{ℕ, _*_, _/_, _≤_, _<_}
+use Prim.Native.Nat.{_*_}
 use native.Mathlib.Nat.{div-le-self}
 use native.Mathlib.Omega.{arith}
 use borrow.Author.Needs.{needs}

@@ -1,5 +1,5 @@
 -- `change` meets its contract: the slot at the SPI's place is changed, or the call is refused.
-use mathlib.Core.Path.{_≡_, refl, sym, ap, _∙_}
+use mathlib.Core.Path.{refl, sym, ap, _∙_}
 use native.Mathlib.Omega.{arith}
 use Rattle.place.specs.Table.{tableSize, toldPlace, placeAnswer}
 use Rattle.place.specs.TableLaws.{in-range, at-place, off-place}

@@ -1,4 +1,4 @@
-use mathlib.Core.Path.{_≡_, refl, sym, ap, _∙_}
+use mathlib.Core.Path.{sym, ap, _∙_}
 use native.Mathlib.Omega.{arith}
 use Rattle.place.specs.Table.{tableSize, toldPlace, placeAnswer}
 use Rattle.place.specs.TableLaws.{in-range, at-place, off-place}

@@ -7,7 +7,7 @@ use native.Mathlib.Omega.{arith}
 use borrow.Author.Needs.{needs}
 use borrow.Author.Tests.{le-leb, lt-leb, le-ltb, lt-ltb}
 use lib.Dec.{leb·zero}
-use Rattle.identifiers.specs.Answer.{Answer, done, refused, within, intIdAnswer}
+use Rattle.identifiers.specs.Answer.{done, refused, within, intIdAnswer}
 use Rattle.identifiers.proofs.types.IntId.new.Statement.{statement}
 use Rattle.identifiers.proofs.types.IntId.new.Tie as tie
 
