@@ -32,8 +32,9 @@ pub struct FieldRule {
     takes_writes: bool,
     // A write lists the SPIs that it touched.
     lists: bool,
-    // Beyond the table a read is refused, and a write ignored.
+    // Beyond the table a read is refused.
     refuses_reads: bool,
+    // Beyond the table a write is ignored.
     ignores_beyond: bool,
 }
 

@@ -1,4 +1,4 @@
-// The Distributor: its table of SPIs, and the loops over it. Only a `Place` of an SPI of the table leads to a slot.
+// The Distributor: its table of SPIs, and the loops over it. A call reaches a slot by a `Place` alone.
 use bank::bank::Bank;
 use controller::controller::ControllerConfig;
 use place::place::Place;
@@ -53,7 +53,7 @@ impl DistributorState {
 }
 
 impl DistributorState {
-    // A copy of all slots, INTID 32's first. Those past the last SPI are fresh.
+    // A copy of all slots, INTID 32's first.
     pub fn slots(self) -> [Slot; SPIS]
         ensures { λ r. ⌜ r ≡ self .slots ⌝ }
     {
@@ -128,7 +128,7 @@ pub(crate) fn write_fields(
     }
 }
 
-// LaidOut every deliverable SPI of the table.
+// Lists every deliverable SPI of the table.
 pub(crate) fn list_deliverable(d: DistributorState, list: &mut [u32]) -> usize
     requires { ⌜ tableSize (d .«spi_count») ≤ length (now list) ⌝ }
     ensures { λ r. ⌜ LaidOut (passing (deliverableAt (d .slots)) 32 (tableSize (d .«spi_count»))) (now (list .entry)) (now (list .exit)) r ⌝ }
@@ -139,7 +139,7 @@ pub(crate) fn list_deliverable(d: DistributorState, list: &mut [u32]) -> usize
     while i < end {
         let p = Place::of(i).index();
         let s = d.slots[p];
-        count = list_if(s.listed_by_switch(), list, count, i);
+        count = list_if(s.is_deliverable(), list, count, i);
         i += 1;
     }
     count

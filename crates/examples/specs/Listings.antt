@@ -31,7 +31,7 @@ pub record Listings : Type 0 where
   pub activate : lists (writes 0x304 2) [] × lists (writes 0x384 2) (33 ∷ [])
   pub others : lists (writes 0x84 2) [] × lists (writes 0x420 0) [] × lists (writes 0xc08 0) []
   pub route : lists (write 0x6108 Qword 1 (replicate 40 0)) (33 ∷ [])
-  -- two in one write, the lowest first; 34 is ready too, and not the guest's
+  -- two in one write, the lowest first; 34 is ready and claimed too
   pub order : reply (writes 0x104 6) (run step (change (Operate (SetEnabled true)) 34 ∷ change (Operate (SetPending true)) 34 ∷ change Claim 34 ∷ []) Ready) ≡ record { answer = done (2 ∷ []); list = 33 ∷ 34 ∷ replicate 38 0 }
 
 pub listings : Listings

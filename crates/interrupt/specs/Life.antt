@@ -92,7 +92,7 @@ merged s r = stateIn (mergedRecord s r)
 unfoldable pub synchronized : InterruptState → InterruptRecord → InterruptRecord
 synchronized s r = let m = mergedRecord s r in redeliveryAs (redelivery r && not (m .pending && m .active)) m
 
--- no longer in flight, and pending or not; what was to be delivered again is counted in
+-- no longer in flight and with no redelivery mark; pending, or not
 unfoldable pub outOfFlight : Bool → InterruptRecord → InterruptRecord
 outOfFlight p r = flags (r .enabled) p (r .active) false false (line r) r
 

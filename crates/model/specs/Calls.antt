@@ -33,7 +33,7 @@ pub record Distributor : Type 0 where
   pub count : ℕ
   pub slots : List Slot
 
--- how many SPIs it has; one that was created has no more than were asked for
+-- how many SPIs it has: as many as were asked for, at most 988
 abbrev pub size : Distributor → ℕ
 size d = tableSize (d .count)
 

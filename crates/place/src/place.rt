@@ -1,4 +1,4 @@
-// Places in the table of SPIs. Only the maker below makes one, and an INTID is none.
+// Places in the table of SPIs. Only the two makers below make one, and an INTID is none.
 use identifiers::error::Refusal;
 ghost use mathlib.Core.Path.{_≡_};
 ghost use Prim.Native.Nat.{_+_, _-_, min, max};

@@ -18,7 +18,7 @@ ghost use Rattle.bank.specs.Banks.{bitsOf};
 ghost use Rattle.interrupt.specs.Life.{deliverableIn};
 ghost use Rattle.slot.specs.Slots.{freshSpi, owned, operated, setting, clearing, replacedRoute, replaced, written, touches, showing, fieldWritten, fieldListed, claimed, claimedTo, released, maskSet, synchronizedTo};
 
-// Only the functions below make a slot or change one, so that nobody else can forge a claim.
+// Only the functions below make a slot or change one, and nothing puts a slot into a Distributor from outside.
 pub struct Slot {
     interrupt: InterruptRecord,
     // The host has claimed the SPI for the guest.
@@ -104,8 +104,8 @@ impl Slot {
         }
     }
 
-    // Turned on, the switch lists every deliverable SPI, owned or not.
-    pub fn listed_by_switch(self) -> bool
+    // Enabled and pending, owned or not.
+    pub fn is_deliverable(self) -> bool
         ensures { λ r. ⌜ r ≡ deliverableIn (self .interrupt) ⌝ }
     {
         let interrupt = self.interrupt;
@@ -174,7 +174,7 @@ impl Slot {
             let new = self.written(bank, field);
             FieldWritten {
                 slot: new,
-                listed: bank.lists() & new.listed_by_switch(),
+                listed: bank.lists() & new.is_deliverable(),
             }
         } else {
             FieldWritten {

@@ -39,8 +39,8 @@ mul-s c = omega (arith, c .index .ensures, c .before .of .ensures)
 element-copy-out-s : tie.Need-element-copy-out-s Inv-loop μ-loop
 element-copy-out-s c = omega (arith, c .index .ensures, c .before .of .ensures)
 
-listed-by-switch-requires : tie.Need-listed-by-switch-requires Inv-loop μ-loop
-listed-by-switch-requires c κs = tt
+is-deliverable-requires : tie.Need-is-deliverable-requires Inv-loop μ-loop
+is-deliverable-requires c κs = tt
 
 list-if-requires : tie.Need-list-if-requires Inv-loop μ-loop
 list-if-requires c κs =
@@ -56,7 +56,7 @@ list-if-requires c κs =
     let t = deliverableAt (a .t1 .slots) in
     let high : l .i < 32 + n = omega (arith, il .loop-test .taken, sz .size .ensures) in
     let at : x .index .result ≡ l .i - 32 = omega (arith, x .index .ensures, o .of .ensures, high) in
-    let on : sw .listed-by-switch .result ≡ t (l .i) = sw .listed-by-switch .ensures ∙ deliverable-at (a .t1 .slots) (x .index .result) (l .i) at in
+    let on : sw .is-deliverable .result ≡ t (l .i) = sw .is-deliverable .ensures ∙ deliverable-at (a .t1 .slots) (x .index .result) (l .i) at in
     λ h. list-room t 32 (now (a .list)) (32 + n) (turns-fit t (now (a .list)) n (st .pre)) (l .i) (l .list) (l .count) (l .inv .0) high (l .inv .2) (sym on ∙ h)
 
 add-i : tie.Need-add-i Inv-loop μ-loop
@@ -82,7 +82,7 @@ loop-again c =
     let t = deliverableAt (a .t1 .slots) in
     let high : l .i < 32 + n = omega (arith, il .loop-test .taken, sz .size .ensures) in
     let at : x .index .result ≡ l .i - 32 = omega (arith, x .index .ensures, o .of .ensures, high) in
-    let on : sw .listed-by-switch .result ≡ t (l .i) = sw .listed-by-switch .ensures ∙ deliverable-at (a .t1 .slots) (x .index .result) (l .i) at in (
+    let on : sw .is-deliverable .result ≡ t (l .i) = sw .is-deliverable .ensures ∙ deliverable-at (a .t1 .slots) (x .index .result) (l .i) at in (
       omega arith,
       omega (arith, high),
       rw (li .list-if .ensures .0, li .list-if .ensures .1)
@@ -118,7 +118,7 @@ list-deliverable-spec =
     index-requires
     mul-s
     element-copy-out-s
-    listed-by-switch-requires
+    is-deliverable-requires
     list-if-requires
     add-i
     loop-less

@@ -15,14 +15,14 @@ written-requires c κs = search needs
 lists-requires : tie.Need-lists-requires
 lists-requires c κs = search needs
 
-listed-by-switch-requires : tie.Need-listed-by-switch-requires
-listed-by-switch-requires c κs = search needs
+is-deliverable-requires : tie.Need-is-deliverable-requires
+is-deliverable-requires c κs = search needs
 
 returns : tie.Need-returns
 returns c =
     let w = c .before .before in
     let t = sym (w .before .before .is-touched .ensures) ∙ w .before .if1 .taken in
-    rw t (w .written .ensures, ap₂ _&&_ (c .before .lists .ensures) (c .listed-by-switch .ensures ∙ ap (λ (s : Slot). deliverableIn (s .interrupt)) (w .written .ensures)))
+    rw t (w .written .ensures, ap₂ _&&_ (c .before .lists .ensures) (c .is-deliverable .ensures ∙ ap (λ (s : Slot). deliverableIn (s .interrupt)) (w .written .ensures)))
 
 returns-2 : tie.Need-returns-2
 returns-2 c = let t = sym (c .before .is-touched .ensures) ∙ c .if1 .left in rw t (refl, refl)
@@ -34,6 +34,6 @@ write-field-spec =
     is-touched-requires
     written-requires
     lists-requires
-    listed-by-switch-requires
+    is-deliverable-requires
     returns
     returns-2)
