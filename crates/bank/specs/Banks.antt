@@ -11,9 +11,9 @@ use mathlib.Core.List.{List, [], _∷_}
 use mir.Val.{boolByte}
 use lib.Dec.{leb, eqb}
 use Rattle.place.specs.Table.{beyondTable}
-use Rattle.identifiers.specs.Affinity.{mpidrOf}
-use Rattle.interrupt.specs.Life.{routeIn}
-use Rattle.identifiers.specs.declared.types.TriggerMode.{TriggerMode}
+use Rattle.attributes.specs.Affinity.{mpidrOf}
+use Rattle.interrupt.specs.Records.{routeIn}
+use Rattle.attributes.specs.declared.attributes.TriggerMode.{TriggerMode}
 use Rattle.interrupt.specs.declared.interrupt.InterruptRecord.{InterruptRecord}
 use Rattle.interrupt.specs.declared.interrupt.Route.{Route}
 use Rattle.bank.specs.declared.bank.Beyond.{Beyond}
@@ -55,9 +55,9 @@ clearLists Active = true
 abbrev pub bit : Bool → ℕ
 bit b = boolByte b
 
-abbrev pub routed : Route → ℕ
-routed (Route.To a) = mpidrOf a
-routed Route.Unset = 0
+abbrev pub routeBits : Route → ℕ
+routeBits (Route.To a) = mpidrOf a
+routeBits Route.Unset = 0
 
 -- ICFGR: 2 for edge, 0 for level; of a written field the upper bit of the two says edge
 abbrev pub edgeField : TriggerMode → ℕ
@@ -68,16 +68,16 @@ abbrev pub triggerIn : ℕ → TriggerMode
 triggerIn v = cond (leb 2 v) TriggerMode.Edge TriggerMode.Level
 
 abbrev pub flagIn : Flag → InterruptRecord → Bool
-flagIn Enabled r = r .enabled
-flagIn Pending r = r .pending
-flagIn Active r = r .active
+flagIn Enabled r = r .life .enabled
+flagIn Pending r = r .life .pending
+flagIn Active r = r .life .active
 
 -- IGROUPR shows that the SPI is owned, by the base's rule
 abbrev pub fieldIn : Field → InterruptRecord → ℕ
 fieldIn Group r = 1
 fieldIn Priority r = r .priority .0
 fieldIn Configuration r = edgeField (r .trigger)
-fieldIn Field.Route r = routed (routeIn r)
+fieldIn Field.Route r = routeBits (routeIn r)
 
 -- ---- the banks
 

@@ -6,16 +6,16 @@ use native.Mathlib.Nat.{mul-le-mul-right, mul-suc, suc-mul, mul-zero, pow-zero, 
 use native.Mathlib.Omega.{arith}
 use lib.Pow.{pow-add}
 use Rattle.theory.specs.Bools.{bit-fits}
-use Rattle.identifiers.specs.AffinityLaws.{Bytes}
-use Rattle.identifiers.specs.declared.types.TriggerMode.{TriggerMode}
-use Rattle.interrupt.specs.Life.{routeIn}
+use Rattle.attributes.specs.AffinityLaws.{Bytes}
+use Rattle.attributes.specs.declared.attributes.TriggerMode.{TriggerMode}
+use Rattle.interrupt.specs.Records.{routeIn}
 use Rattle.interrupt.specs.declared.interrupt.InterruptRecord.{InterruptRecord}
 use Rattle.interrupt.specs.declared.interrupt.Route.{Route}
 use Rattle.bank.specs.declared.bank.Bank.{Bank}
 use Rattle.bank.specs.declared.bank.Field.{Field}
 use Rattle.bank.specs.declared.bank.Field.the-variants.{Group, Priority, Configuration}
 use Rattle.bank.specs.declared.bank.Bank.the-variants.{Set, Clear, Replace}
-use Rattle.bank.specs.Banks.{bitsOf, routed, flagIn, edgeField, shown, packed}
+use Rattle.bank.specs.Banks.{bitsOf, routeBits, flagIn, edgeField, shown, packed}
 
 pub pow-pow : (a m : ℕ) → (2 ^ a) ^ m ≡ 2 ^ (a * m)
 pow-pow a zero = rw (mul-zero a, pow-zero (2 ^ a))
@@ -37,7 +37,7 @@ route-fits : (r : InterruptRecord) → Bytes (r .route) → shown (Replace Field
 unfolding routeIn
 route-fits r h = go (r .routed)
   where
-    go : (b : Bool) → routed (cond b (Route.To (r .route)) Route.Unset) < 2 ^ 64
+    go : (b : Bool) → routeBits (cond b (Route.To (r .route)) Route.Unset) < 2 ^ 64
     go true = omega arith
     go false = omega arith
 

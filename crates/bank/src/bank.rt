@@ -1,6 +1,6 @@
 // The banks of registers: what each shows of a record, which written fields act, whether a write lists, and what is refused beyond
 // the table. No table is in here.
-use identifiers::types::TriggerMode;
+use attributes::attributes::TriggerMode;
 use interrupt::interrupt::InterruptRecord;
 use interrupt::interrupt::Route;
 ghost use mathlib.Core.Path.{_≡_};
@@ -8,7 +8,7 @@ ghost use mathlib.Core.Bool.{_&&_};
 ghost use Prim.Native.Nat.{_+_, _-_, _*_, _/_, _%_, _^_, _<_};
 ghost use Rattle.theory.specs.Lists.{passing};
 ghost use Rattle.place.specs.Table.{beyondTable};
-ghost use Rattle.bank.specs.Banks.{rule, ruleOf, bitsOf, routed, flagIn, fieldIn, shown, acts, triggerIn, edgeField, setLists, clearLists, lists, readRefuses, ignoresBeyond, writeRefuses, refusedOver, toldBeyond, listsUnless, firstOf};
+ghost use Rattle.bank.specs.Banks.{rule, ruleOf, bitsOf, routeBits, flagIn, fieldIn, shown, acts, triggerIn, edgeField, setLists, clearLists, lists, readRefuses, ignoresBeyond, writeRefuses, refusedOver, toldBeyond, listsUnless, firstOf};
 
 // A flag of an interrupt. Two banks show it: a write to the one sets it, to the other clears it.
 pub enum Flag {
@@ -90,7 +90,7 @@ pub fn read_beyond(explicit: bool, n: u32, bank: Bank, lo: u32, m: u32) -> Beyon
 }
 
 fn route_value(route: Route) -> u64
-    ensures { λ r. ⌜ r ≡ routed route ⌝ }
+    ensures { λ r. ⌜ r ≡ routeBits route ⌝ }
 {
     match route {
         Route::To(affinity) => affinity.mpidr(),

@@ -16,19 +16,20 @@ use Rattle.identifiers.specs.declared.error.Refusal.the-variants.{InvalidIntId}
 use Rattle.place.specs.Table.{inTable}
 use Rattle.place.specs.TableLaws.{in-range}
 use Rattle.slot.specs.declared.slot.Slot.{Slot}
+use Rattle.slot.specs.Slots.{changed}
 use Rattle.slot.specs.NoSlot.{noSlot}
 use Rattle.slot.specs.BankRule.{slotOf}
-use Rattle.spi.specs.declared.change.Change.{Change}
+use Rattle.changes.specs.declared.change.Change.{Change}
 use Rattle.spi.specs.declared.question.Question.{Question}
 use Rattle.spi.specs.declared.question.SlotAnswer.{SlotAnswer}
-use Rattle.spi.specs.Changes.{changed, changeAnswer, toldChange}
+use Rattle.spi.specs.ChangeAnswers.{changeAnswer, toldChange}
 use Rattle.spi.specs.Questions.{valueOf, toldValue, questionAnswer, toldQuestion}
 use Rattle.model.specs.Calls.{change, ask, size, plain, changedAt, reply, step}
 use Rattle.distributor.specs.declared.distributor.DistributorState.{DistributorState}
 use Rattle.distributor.specs.declared.host.Changed.{Changed}
 use Rattle.distributor.specs.Model.{modelOf}
 use Rattle.distributor.specs.Loops.{withSlots}
-use Rattle.distributor.specs.Host.{slotAnswer, Changes}
+use Rattle.distributor.specs.Host.{slotAnswer, ResultOf}
 
 module _ (d : DistributorState) (raw : ℕ) where
   abbrev N : ℕ
@@ -55,7 +56,7 @@ module _ (d : DistributorState) (raw : ℕ) where
     -- the slot at the SPI's place is changed
     pub changed-in : (p : ℕ) (new : Slot) (r : Changed) → inTable N raw ≡ true → p ≡ raw - 32
         → new ≡ changed h (getD (d .slots) p noSlot) → r .state ≡ withSlots d (set (d .slots) p new)
-        → toldChange (r .answer) ≡ changeAnswer h (getD (d .slots) p noSlot) → Changes (change h raw) d r
+        → toldChange (r .answer) ≡ changeAnswer h (getD (d .slots) p noSlot) → ResultOf (change h raw) d r
     unfolding step reply
     changed-in p new r t e n s a =
         let m : mapAt (λ q x. x) (d .slots) ≡ d .slots = mapAt-still (λ q x. x) (d .slots) (λ q x. refl) in
@@ -69,7 +70,7 @@ module _ (d : DistributorState) (raw : ℕ) where
         )
 
     -- an SPI that the table has not
-    pub changed-out : (r : Changed) → inTable N raw ≡ false → r .state ≡ d → toldChange (r .answer) ≡ refused 1 (raw ∷ []) → Changes (change h raw) d r
+    pub changed-out : (r : Changed) → inTable N raw ≡ false → r .state ≡ d → toldChange (r .answer) ≡ refused 1 (raw ∷ []) → ResultOf (change h raw) d r
     unfolding step reply
     changed-out r t s a = (
       ap modelOf (s ∙ ap (withSlots d) (sym (mapAt-still (λ q. changedAt (d .config) N h raw (32 + q)) (d .slots) (λ i x. nowhere i x t)))),

@@ -8,7 +8,7 @@ use native.Mathlib.Omega.{arith}
 use lib.ListN.{length, getD, set, length-append}
 use Rattle.theory.specs.Lists.{passing}
 use Rattle.theory.specs.ListLaws.{passing-more, laid-more, length-laid, passing-few, passing-most}
-use Rattle.interrupt.specs.Life.{deliverableIn}
+use Rattle.interrupt.specs.Records.{deliverableIn}
 use Rattle.slot.specs.declared.slot.Slot.{Slot}
 use Rattle.slot.specs.NoSlot.{noSlot}
 use Rattle.model.specs.Calls.{deliverableAt}

@@ -3,21 +3,13 @@ use mathlib.Core.Path.{_≡_, refl, ap}
 use mathlib.Core.Bool.{Bool, true, false}
 use mathlib.Core.List.{[], _∷_}
 use Rattle.identifiers.specs.Answer.{done}
-use Rattle.identifiers.specs.AnswerLaws.{told-refusal}
 use Rattle.bank.specs.Banks.{bit}
 use Rattle.model.specs.Calls.{Reply}
 use Rattle.distributor.specs.declared.distributor.DistributorState.{DistributorState}
-use Rattle.distributor.specs.declared.create.CreateAnswer.{CreateAnswer}
-use Rattle.distributor.specs.Model.{modelOf, toldCreate, switchReply}
+use Rattle.distributor.specs.Model.{modelOf, switchReply}
 
 pub one-state : (d e : DistributorState) → modelOf d ≡ modelOf e → d ≡ e
 one-state d e p = λ j. record { config = p j .config; enabled = p j .switch; «spi_count» = p j .count; slots = p j .slots }
-
-pub told-create : (a b : CreateAnswer) → toldCreate a ≡ toldCreate b → a ≡ b
-told-create CreateAnswer.Done CreateAnswer.Done e = refl
-told-create CreateAnswer.Done (CreateAnswer.Refused g) e = cc
-told-create (CreateAnswer.Refused f) CreateAnswer.Done e = cc
-told-create (CreateAnswer.Refused f) (CreateAnswer.Refused g) e = ap CreateAnswer.Refused (told-refusal f g e)
 
 bit-same : (x y : Bool) → bit x ≡ bit y → x ≡ y
 bit-same true true e = refl

@@ -4,7 +4,7 @@ use mathlib.Core.Path.{_≡_}
 use mathlib.Core.List.{List}
 use Rattle.theory.specs.Lists.{mapAt}
 use Rattle.registers.specs.declared.register.Access.{Access}
-use Rattle.registers.specs.Answers.{toldWrite}
+use Rattle.answers.specs.Answers.{toldWrite}
 use Rattle.model.specs.Calls.{Distributor, size, writtenAt, switched, writeReply}
 use Rattle.distributor.specs.declared.distributor.DistributorState.{DistributorState}
 use Rattle.distributor.specs.declared.access.Wrote.{Wrote}
@@ -14,5 +14,5 @@ abbrev pub afterWrite : Distributor → Access → ℕ → Distributor
 afterWrite d a v = record { config = d .config; switch = switched (d .config) (size d) a v (d .switch); count = d .count; slots = mapAt (λ p. writtenAt (d .config) (size d) a v (32 + p)) (d .slots) }
 
 -- the write gives r, and leaves the list `left` where the list `lent` was
-abbrev pub Writes : DistributorState → Access → ℕ → List ℕ → Wrote → List ℕ → Type 0
-Writes d a v lent r left = (modelOf (r .state) ≡ afterWrite (modelOf d) a v) × (record { answer = toldWrite (r .answer); list = left } ≡ writeReply (modelOf d) a v lent)
+abbrev pub ResultOfWrite : DistributorState → Access → ℕ → List ℕ → Wrote → List ℕ → Type 0
+ResultOfWrite d a v lent r left = (modelOf (r .state) ≡ afterWrite (modelOf d) a v) × (record { answer = toldWrite (r .answer); list = left } ≡ writeReply (modelOf d) a v lent)

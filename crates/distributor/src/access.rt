@@ -3,6 +3,10 @@ use crate::distributor::DistributorState;
 use crate::distributor::list_deliverable;
 use crate::distributor::read_fields;
 use crate::distributor::write_fields;
+use answers::answer::ReadAnswer;
+use answers::answer::WriteAnswer;
+use answers::answer::read_answer;
+use answers::answer::write_answer;
 use bank::bank::Bank;
 use bank::bank::first_beyond;
 use bank::bank::read_beyond;
@@ -11,26 +15,22 @@ use controller::identity::component_id;
 use controller::identity::ctlr;
 use controller::identity::switch_bit;
 use controller::identity::typer;
-use registers::answer::ReadAnswer;
-use registers::answer::WriteAnswer;
-use registers::answer::read_answer;
-use registers::answer::write_answer;
+use decoding::decode::decode;
+use decoding::decode::write_access;
 use registers::register::Access;
 use registers::register::AccessWidth;
 use registers::register::Direction;
 use registers::register::Register;
-use registers::register::decode;
-use registers::register::write_access;
 ghost use mathlib.Core.Path.{_≡_};
 ghost use Prim.Native.Nat.{_+_, _*_, _≤_, _<_};
 ghost use lib.ListN.{length};
 ghost use Rattle.place.specs.Table.{tableSize};
 ghost use Rattle.bank.specs.Banks.{bitsOf};
-ghost use Rattle.registers.specs.MapRows.{Bounded, Whole};
-ghost use Rattle.registers.specs.Answers.{toldRead, toldWrite};
+ghost use Rattle.decoding.specs.Bounds.{Bounded, Whole};
+ghost use Rattle.answers.specs.Answers.{toldRead, toldWrite};
 ghost use Rattle.model.specs.Calls.{read, write, plain, readReply, reply, step};
 ghost use Rattle.distributor.specs.Model.{modelOf};
-ghost use Rattle.distributor.specs.Writes.{Writes};
+ghost use Rattle.distributor.specs.Writes.{ResultOfWrite};
 
 pub struct Wrote {
     pub state: DistributorState,
@@ -74,7 +74,7 @@ impl DistributorState {
     // Refused or not, the fields inside the table are written.
     fn write_bank(self, bank: Bank, lo: u32, m: u32, value: u64, list: &mut [u32]) -> Wrote
         requires { ⌜ (lo < 0x10000) × (m ≤ 64) × (tableSize (self .«spi_count») ≤ length (now list)) ⌝ }
-        ensures { λ r. ⌜ Writes self (Access.To (Register.Fields bank lo m)) value (now (list .entry)) r (now (list .exit)) ⌝ }
+        ensures { λ r. ⌜ ResultOfWrite self (Access.To (Register.Fields bank lo m)) value (now (list .entry)) r (now (list .exit)) ⌝ }
     {
         let beyond = first_beyond(self.is_explicit(), self.size(), bank, value, lo, m);
         let w = write_fields(self, bank, lo, m, value, beyond.lists(), list);
@@ -88,7 +88,7 @@ impl DistributorState {
     // Turned on, the switch lists what is deliverable.
     fn write_ctlr(mut self, value: u64, list: &mut [u32]) -> Wrote
         requires { ⌜ tableSize (self .«spi_count») ≤ length (now list) ⌝ }
-        ensures { λ r. ⌜ Writes self (Access.To Register.Ctlr) value (now (list .entry)) r (now (list .exit)) ⌝ }
+        ensures { λ r. ⌜ ResultOfWrite self (Access.To Register.Ctlr) value (now (list .entry)) r (now (list .exit)) ⌝ }
     {
         let on = switch_bit(value);
         self.enabled = on;
@@ -118,7 +118,7 @@ impl DistributorState {
 
     fn write_register(self, register: Register, value: u64, list: &mut [u32]) -> Wrote
         requires { ⌜ Bounded register × (tableSize (self .«spi_count») ≤ length (now list)) ⌝ }
-        ensures { λ r. ⌜ Writes self (Access.To register) value (now (list .entry)) r (now (list .exit)) ⌝ }
+        ensures { λ r. ⌜ ResultOfWrite self (Access.To register) value (now (list .entry)) r (now (list .exit)) ⌝ }
     {
         match register {
             Register::Identification(_) => self.unchanged(WriteAnswer::Done(0)),

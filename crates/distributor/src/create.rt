@@ -1,24 +1,19 @@
 // Creation, and the host's calls on the switch.
 use crate::distributor::DistributorState;
 use controller::controller::ControllerConfig;
-use identifiers::error::Refusal;
 use identifiers::types::SpiId;
+use place::place::CreateAnswer;
 use place::place::SPIS;
+use place::place::create_answer;
+use place::place::created_count;
 use slot::slot::Slot;
 ghost use mathlib.Core.Path.{_≡_};
-ghost use mathlib.Core.Bool.{cond};
-ghost use lib.Dec.{leb};
 ghost use Prim.Native.Nat.{_+_};
 ghost use Rattle.theory.specs.Lists.{tabulate};
-ghost use Rattle.place.specs.Table.{capacity};
+ghost use Rattle.place.specs.Table.{capacity, createAnswer, createdCount, toldCreate};
 ghost use Rattle.slot.specs.Slots.{freshSpi};
-ghost use Rattle.model.specs.Calls.{created, createAnswer, isSwitchedOn, rollback, reply, step};
-ghost use Rattle.distributor.specs.Model.{modelOf, toldCreate, switchReply};
-
-pub enum CreateAnswer {
-    Done,
-    Refused(Refusal),
-}
+ghost use Rattle.model.specs.Calls.{created, isSwitchedOn, rollback, reply, step};
+ghost use Rattle.distributor.specs.Model.{modelOf, switchReply};
 
 pub struct Created {
     // With no SPIs where the creation was refused.
@@ -54,19 +49,12 @@ impl DistributorState {
 
     // A Distributor of so many SPIs. More than a table has room for are refused, carrying 1020, the first INTID past the SPIs.
     pub fn new(config: ControllerConfig, spi_count: u32) -> Created
-        ensures state { λ r. ⌜ modelOf (r .state) ≡ created config (cond (leb «spi_count» capacity) «spi_count» 0) ⌝ }
+        ensures state { λ r. ⌜ modelOf (r .state) ≡ created config (createdCount «spi_count») ⌝ }
         ensures answer { λ r. ⌜ toldCreate (r .answer) ≡ createAnswer «spi_count» ⌝ }
     {
-        if spi_count <= SPIS as u32 {
-            Created {
-                state: DistributorState::made(config, spi_count),
-                answer: CreateAnswer::Done,
-            }
-        } else {
-            Created {
-                state: DistributorState::made(config, 0),
-                answer: CreateAnswer::Refused(Refusal::InvalidIntId(1020)),
-            }
+        Created {
+            state: DistributorState::made(config, created_count(spi_count)),
+            answer: create_answer(spi_count),
         }
     }
 

@@ -85,7 +85,7 @@ pub(crate) fn read_fields(d: DistributorState, bank: Bank, lo: u32, m: u32) -> u
     let mut i = span.end;
     while first < i {
         i -= 1;
-        let p = Place::of(i).index();
+        let p = Place::nearest(i).index();
         let s = d.slots[p];
         value = bank.put_below(value, s.showing(explicit, bank));
     }
@@ -113,7 +113,7 @@ pub(crate) fn write_fields(
     let mut count: usize = 0;
     let mut i = first;
     while i < end {
-        let p = Place::of(i).index();
+        let p = Place::nearest(i).index();
         let old = d.slots[p];
         let w = old.write_field(explicit, bank, bank.low_field(v));
         let new = w.slot;
@@ -137,7 +137,7 @@ pub(crate) fn list_deliverable(d: DistributorState, list: &mut [u32]) -> usize
     let mut count: usize = 0;
     let mut i: u32 = 32;
     while i < end {
-        let p = Place::of(i).index();
+        let p = Place::nearest(i).index();
         let s = d.slots[p];
         count = list_if(s.is_deliverable(), list, count, i);
         i += 1;

@@ -1,12 +1,11 @@
 // The host's calls on one SPI: a change that is named, and a question that is named. Each finds the SPI's place first.
 use crate::distributor::DistributorState;
+use changes::change::Change;
 use identifiers::types::SpiId;
 use place::place::Place;
 use place::place::PlaceAnswer;
-use spi::change::Change;
 use spi::change::ChangeAnswer;
 use spi::change::change_answer;
-use spi::change::changed;
 use spi::question::Question;
 use spi::question::QuestionAnswer;
 use spi::question::SlotAnswer;
@@ -14,7 +13,7 @@ ghost use mathlib.Core.Path.{_≡_};
 ghost use Rattle.spi.specs.Questions.{questionAnswer, toldQuestion};
 ghost use Rattle.model.specs.Calls.{change, ask, plain, reply};
 ghost use Rattle.distributor.specs.Model.{modelOf};
-ghost use Rattle.distributor.specs.Host.{slotAnswer, Changes};
+ghost use Rattle.distributor.specs.Host.{slotAnswer, ResultOf};
 
 pub struct Changed {
     pub state: DistributorState,
@@ -24,13 +23,13 @@ pub struct Changed {
 impl DistributorState {
     // A change of one SPI. Refusal 1 first, and then what the change itself refuses.
     pub fn change(mut self, spi: SpiId, what: Change) -> Changed
-        ensures { λ r. ⌜ Changes (change what (spi .0)) self r ⌝ }
+        ensures { λ r. ⌜ ResultOf (change what (spi .0)) self r ⌝ }
     {
         match Place::new(self.spi_count, spi.raw()) {
             PlaceAnswer::Done(place) => {
                 let p = place.index();
                 let old = self.slots[p];
-                self.slots[p] = changed(old, what);
+                self.slots[p] = old.changed(what);
                 Changed {
                     state: self,
                     answer: change_answer(old, what),

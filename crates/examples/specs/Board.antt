@@ -7,15 +7,15 @@ use lib.ListN.{replicate}
 use lib.Count.{leadingZeros}
 use Rattle.theory.specs.Runs.{run}
 use Rattle.identifiers.specs.Answer.{Answer, done, refused}
-use Rattle.identifiers.specs.Affinity.{affinity}
-use Rattle.interrupt.specs.Life.{fresh, routeIn, deliverableIn, enabledTo, pendingTo, priorityTo, triggerTo, routeTo, unrouted, pulsed}
+use Rattle.attributes.specs.Affinity.{affinity}
+use Rattle.interrupt.specs.Records.{fresh, routeIn, deliverableIn, withLife, linePulsed, priorityTo, triggerTo, routeTo, unrouted}
 use Rattle.operation.specs.declared.operation.Operation.the-variants.{SetEnabled, SetLevel, Pulse}
 use Rattle.controller.specs.declared.controller.ControllerConfig.{ControllerConfig}
 use Rattle.controller.specs.declared.controller.GicV3SpiOwnership.{GicV3SpiOwnership}
 use Rattle.controller.specs.declared.controller.GicV3SpiOwnership.the-variants.{AllGuestOwned, Explicit}
 use Rattle.registers.specs.declared.register.AccessWidth.the-variants.{Byte, Dword, Qword}
-use Rattle.registers.specs.Registers.{decode}
-use Rattle.spi.specs.declared.change.Change.the-variants.{Claim, ClaimTo, Release, Operate}
+use Rattle.decoding.specs.Decoding.{decode}
+use Rattle.changes.specs.declared.change.Change.the-variants.{Claim, ClaimTo, Release, Operate}
 use Rattle.spi.specs.declared.question.Question.the-variants.{Pending}
 use Rattle.model.specs.Calls.{Distributor, Call, create, read, write, change, ask, Reply, reply, step, created}
 use Rattle.examples.specs.Ends.{ends-same}
@@ -29,7 +29,7 @@ abbrev pub K : Distributor
 K = run step (change Claim 33 ∷ change Claim 64 ∷ change (ClaimTo (affinity 0 0 0 1)) 65 ∷ []) (created (plainConfig Explicit) 40)
 
 -- a lent list with just enough places for K, and for 988 SPIs
-abbrev lent : ℕ → List ℕ
+abbrev pub lent : ℕ → List ℕ
 lent n = replicate n 0xa5a5
 
 abbrev pub told : Call → Distributor → Answer
@@ -47,7 +47,7 @@ gives a l = record { answer = a; list = l }
 abbrev reads : ℕ → Distributor → Answer
 reads offset d = told (read offset Dword) d
 
-abbrev writes : ℕ → ℕ → Call
+abbrev pub writes : ℕ → ℕ → Call
 writes offset v = write offset Dword v (lent 40)
 
 abbrev routes : ℕ → ℕ → Call
@@ -79,7 +79,7 @@ pub record Board : Type 0 where
   pub case12 : told (read 0x7f8 Qword) (step sets Full) ≡ done (0x44332211 ∷ [])
 
 pub board : Board
-unfolding reply step decode leadingZeros fresh routeIn deliverableIn enabledTo pendingTo triggerTo routeTo unrouted priorityTo pulsed
+unfolding reply step decode leadingZeros fresh routeIn deliverableIn withLife linePulsed triggerTo routeTo unrouted priorityTo
 board =
     record {
       case1 = (refl, refl);

@@ -5,16 +5,15 @@ use mathlib.Core.Bool.{true}
 use mathlib.Core.List.{[], _∷_}
 use Rattle.theory.specs.Runs.{run}
 use Rattle.identifiers.specs.Answer.{done, refused}
-use Rattle.interrupt.specs.Life.{fresh, deliverableIn, enabledTo, triggerTo}
-use Rattle.identifiers.specs.declared.types.TriggerMode.the-variants.{Edge}
+use Rattle.interrupt.specs.Records.{fresh, deliverableIn, withLife, triggerTo}
+use Rattle.attributes.specs.declared.attributes.TriggerMode.the-variants.{Edge}
 use Rattle.operation.specs.declared.operation.Operation.the-variants.{SetEnabled, SetTrigger}
 use Rattle.registers.specs.declared.register.AccessWidth.the-variants.{Byte, Dword}
-use Rattle.registers.specs.Registers.{decode}
-use Rattle.spi.specs.declared.change.Change.the-variants.{Claim, Operate}
+use Rattle.decoding.specs.Decoding.{decode}
+use Rattle.changes.specs.declared.change.Change.the-variants.{Claim, Operate}
 use Rattle.model.specs.Calls.{Distributor, read, change, reply, step, created}
 use Rattle.examples.specs.Ends.{ends-same}
-use Rattle.examples.specs.Board.{K, Full, told, then}
-use Rattle.examples.specs.OrderExamples.{writes}
+use Rattle.examples.specs.Board.{K, Full, told, then, writes}
 
 -- 40 SPIs, all guest-owned
 abbrev Guest : Distributor
@@ -57,7 +56,7 @@ accesses =
     }
 
 pub table-end : TableEnd
-unfolding reply step decode fresh deliverableIn enabledTo triggerTo
+unfolding reply step decode fresh deliverableIn withLife triggerTo
 table-end =
     record {
       configuration = (refl, refl, ends-same K (writes 0xc10 0xaaaaaaaa ∷ []) (change (Operate (SetTrigger Edge)) 64 ∷ change (Operate (SetTrigger Edge)) 65 ∷ []) refl refl);

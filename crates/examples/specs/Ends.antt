@@ -16,7 +16,7 @@ use Rattle.controller.specs.declared.controller.ControllerConfig.{ControllerCon
 use Rattle.registers.specs.declared.register.Register.the-variants.{Identification, Ctlr, Typer, Iidr, Fields, Reserved}
 use Rattle.registers.specs.declared.register.Access.{Access}
 use Rattle.registers.specs.declared.register.Access.the-variants.{To, Refused}
-use Rattle.registers.specs.Registers.{writeAccess}
+use Rattle.decoding.specs.Decoding.{writeAccess}
 use Rattle.slot.specs.declared.slot.Slot.{Slot}
 use Rattle.model.specs.Calls.{Distributor, Call, create, read, write, isSwitchedOn, rollback, change, ask, size, writtenAt, slotAfter, step}
 

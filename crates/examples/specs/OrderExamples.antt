@@ -6,31 +6,28 @@ use mathlib.Core.List.{List, [], _∷_, reverse}
 use mathlib.Core.Option.{some}
 use native.Mathlib.Omega.{arith}
 use borrow.Author.Tests.{eqb-true}
-use lib.ListN.{getElem?, replicate}
+use lib.ListN.{getElem?}
 use Rattle.theory.specs.Bools.{both}
 use Rattle.theory.specs.Lists.{tabulate, passing}
 use Rattle.theory.specs.ListLaws.{everywhere}
-use Rattle.theory.specs.Elements.{at-tabulate}
+use Rattle.theory.specs.Elements.{element-of-tabulate}
 use Rattle.theory.specs.Runs.{run, answers, Share, Matching}
 use Rattle.theory.specs.Matchings.{swap, reversal}
 use Rattle.identifiers.specs.Answer.{done, refused, within}
-use Rattle.interrupt.specs.Life.{fresh, enabledTo, routeTo}
+use Rattle.interrupt.specs.Records.{fresh, withLife, routeTo}
 use Rattle.operation.specs.declared.operation.Operation.the-variants.{SetEnabled}
 use Rattle.place.specs.Table.{inTable}
 use Rattle.place.specs.TableLaws.{in-range}
 use Rattle.registers.specs.declared.register.AccessWidth.the-variants.{Byte, Dword, Qword}
-use Rattle.registers.specs.Registers.{decode}
+use Rattle.decoding.specs.Decoding.{decode}
 use Rattle.slot.specs.BankRule.{covers}
-use Rattle.spi.specs.declared.change.Change.{Change}
-use Rattle.spi.specs.declared.change.Change.the-variants.{Release, Operate}
+use Rattle.changes.specs.declared.change.Change.{Change}
+use Rattle.changes.specs.declared.change.Change.the-variants.{Release, Operate}
 use Rattle.spi.specs.declared.question.Question.the-variants.{Enabled}
 use Rattle.model.specs.Calls.{Distributor, Call, create, read, write, isSwitchedOn, rollback, change, ask, step, reply, plain, size}
 use Rattle.order.specs.Names.{theSwitch, spi, names}
 use Rattle.order.specs.Order.{named, ordered}
-use Rattle.examples.specs.Board.{K}
-
-abbrev pub writes : ℕ → ℕ → Call
-writes offset v = write offset Dword v (replicate 40 0)
+use Rattle.examples.specs.Board.{K, lent, writes}
 
 -- ---- what calls on K name
 
@@ -52,10 +49,10 @@ pub record NamedOnK : Type 0 where
   pub flag-write : spis (writes 0x108 0x1f9) ≡ 64 ∷ from 67 5
   pub priority : (spis (read 0x424 Dword) ≡ from 36 4) × (spis (writes 0x424 0) ≡ from 36 4)
   pub configuration : spis (writes 0xc0c 0) ≡ from 48 16
-  pub route : (spis (read 0x6108 Qword) ≡ from 33 1) × (spis (write 0x6110 Qword 0 (replicate 40 0)) ≡ from 34 1)
+  pub route : (spis (read 0x6108 Qword) ≡ from 33 1) × (spis (write 0x6110 Qword 0 (lent 40)) ≡ from 34 1)
   pub group-write : spis (writes 0x84 0xffffffff) ≡ []
   pub host : (spis (change Release 34) ≡ from 34 1) × (spis (change Release 72) ≡ [])
-  pub refused-3-4-5 : (spis (read 0x106 Dword) ≡ []) × (spis (read 0x104 Byte) ≡ []) × (spis (write 0x104 Dword 2 (replicate 39 0)) ≡ [])
+  pub refused-3-4-5 : (spis (read 0x106 Dword) ≡ []) × (spis (read 0x104 Byte) ≡ []) × (spis (write 0x104 Dword 2 (lent 39)) ≡ [])
   pub control : (spis (writes 0 2) ≡ from 32 40) × (spis (writes 0 1) ≡ []) × (spis (read 0 Dword) ≡ [])
   pub switch : (named K (writes 0 2) theSwitch ≡ true) × (named K (writes 0 1) theSwitch ≡ true) × (named K (read 0 Dword) theSwitch ≡ true) × (named K isSwitchedOn theSwitch ≡ true) × (named K (rollback true) theSwitch ≡ true)
   pub no-switch : (named K (read 0x104 Dword) theSwitch ≡ false) × (named K (writes 0x104 2) theSwitch ≡ false) × (named K (read 0 Byte) theSwitch ≡ false)
@@ -109,8 +106,8 @@ pub backward : (d : Distributor) (h : ℕ → Change) (n : ℕ) → Matching (na
 backward d h n =
     reversal (named d) (each h n)
     (λ i j k l p q below.
-    let u : nth h i ≡ k = ap (nth h) (omega arith) ∙ at-tabulate (nth h) 0 n i k p in
-    let v : nth h j ≡ l = ap (nth h) (omega arith) ∙ at-tabulate (nth h) 0 n j l q in
+    let u : nth h i ≡ k = ap (nth h) (omega arith) ∙ element-of-tabulate (nth h) 0 n i k p in
+    let v : nth h j ≡ l = ap (nth h) (omega arith) ∙ element-of-tabulate (nth h) 0 n j l q in
     rw (← u, ← v) (each-apart d h i j below))
 
 -- so both orders end in one state
@@ -148,7 +145,7 @@ question = ask Enabled 33
 -- two calls on one SPI: their order changes an answer, and they have no matching
 pub order-matters : (answers step reply (enable ∷ question ∷ []) K ≡ plain (done []) ∷ plain (done (1 ∷ [])) ∷ [])
     × (answers step reply (question ∷ enable ∷ []) K ≡ plain (done (0 ∷ [])) ∷ plain (done []) ∷ [])
-unfolding step reply fresh enabledTo
+unfolding step reply fresh withLife
 order-matters = (refl, refl)
 
 pub unmatched : ¬ Matching (named K) (enable ∷ question ∷ []) (question ∷ enable ∷ [])
@@ -163,6 +160,6 @@ unmatched m =
 
 -- a write that is refused 1 counts: before it 64 and 65 read as disabled, after it as enabled
 pub refused-matters : (answers step reply (read 0x108 Dword ∷ writes 0x108 0x1ff ∷ read 0x108 Dword ∷ []) K
-    ≡ plain (done (0 ∷ [])) ∷ record { answer = refused 1 (72 ∷ []); list = replicate 40 0 } ∷ plain (done (3 ∷ [])) ∷ [])
-unfolding step reply decode fresh enabledTo routeTo
+    ≡ plain (done (0 ∷ [])) ∷ record { answer = refused 1 (72 ∷ []); list = lent 40 } ∷ plain (done (3 ∷ [])) ∷ [])
+unfolding step reply decode fresh withLife routeTo
 refused-matters = refl

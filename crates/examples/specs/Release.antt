@@ -3,11 +3,11 @@ use mathlib.Core.Path.{_≡_, refl}
 use mathlib.Core.Bool.{true}
 use mathlib.Core.List.{[], _∷_}
 use Rattle.identifiers.specs.Answer.{done}
-use Rattle.identifiers.specs.Affinity.{affinity}
-use Rattle.interrupt.specs.Life.{fresh, routeIn, maskIn, enabledTo, triggerTo, routeTo, unrouted, maskTo}
-use Rattle.identifiers.specs.declared.types.TriggerMode.the-variants.{Edge}
+use Rattle.attributes.specs.Affinity.{affinity}
+use Rattle.interrupt.specs.Records.{fresh, routeIn, maskIn, withLife, triggerTo, routeTo, unrouted, maskTo}
+use Rattle.attributes.specs.declared.attributes.TriggerMode.the-variants.{Edge}
 use Rattle.operation.specs.declared.operation.Operation.the-variants.{SetEnabled, SetTrigger}
-use Rattle.spi.specs.declared.change.Change.the-variants.{ClaimTo, Release, SetCpuTargetMask, Operate}
+use Rattle.changes.specs.declared.change.Change.the-variants.{ClaimTo, Release, SetCpuTargetMask, Operate}
 use Rattle.spi.specs.declared.question.Question.{Question}
 use Rattle.spi.specs.declared.question.Question.the-variants.{Enabled, Trigger, CpuTargetMask}
 use Rattle.model.specs.Calls.{change, ask, reply, step}
@@ -27,5 +27,5 @@ unfolding reply step maskIn routeTo maskTo
 claim-masks = record { masks = (refl, refl, refl, ends-same K (change (SetCpuTargetMask 3) 65 ∷ []) [] refl refl) }
 
 pub releases-keep : Releases
-unfolding reply step fresh routeIn enabledTo triggerTo unrouted
+unfolding reply step fresh routeIn withLife triggerTo unrouted
 releases-keep = record { releases = (refl, ends-same K (change Release 34 ∷ []) [] refl refl, refl, refl, refl) }

@@ -2,13 +2,13 @@
 use crate::run::Ran;
 use controller::controller::ControllerConfig;
 use controller::controller::GicV3SpiOwnership;
-use distributor::create::CreateAnswer;
 use distributor::distributor::DistributorState;
 use harness_numbers::answer;
 use harness_numbers::answer::Answer;
 use harness_numbers::call::Call;
 use harness_numbers::number::has;
 use harness_numbers::number::low_word;
+use place::place::CreateAnswer;
 
 // Before any creation there is a Distributor with no SPIs, as after one that is refused.
 pub fn nothing() -> DistributorState {

@@ -6,10 +6,10 @@ use crate::number::low_byte;
 use crate::number::of_state;
 use crate::number::state;
 use crate::number::trigger;
-use identifiers::types::GicAffinity;
-use identifiers::types::Priority;
+use attributes::attributes::GicAffinity;
+use attributes::attributes::Priority;
+use changes::change::Change;
 use operation::operation::Operation;
-use spi::change::Change;
 use spi::change::ChangeAnswer;
 use spi::change::Given;
 

@@ -1,8 +1,8 @@
 // The guest's reads and writes, by number.
 use crate::answer;
 use crate::answer::Answer;
-use registers::answer::ReadAnswer;
-use registers::answer::WriteAnswer;
+use answers::answer::ReadAnswer;
+use answers::answer::WriteAnswer;
 use registers::register::AccessWidth;
 ghost use Prim.Native.Nat.{_≤_};
 

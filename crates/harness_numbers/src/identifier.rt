@@ -9,7 +9,7 @@ use crate::number::trigger;
 use crate::number::wide;
 use crate::number::wide_word;
 use crate::packed;
-use identifiers::types::GicAffinity;
+use attributes::attributes::GicAffinity;
 use identifiers::types::IntId;
 use identifiers::types::IntIdAnswer;
 use identifiers::types::LpiId;

@@ -1,6 +1,6 @@
 // Between numbers of a list and the values that they stand for.
-use identifiers::types::InterruptState;
-use identifiers::types::TriggerMode;
+use attributes::attributes::InterruptState;
+use attributes::attributes::TriggerMode;
 
 pub fn low_byte(n: u64) -> u8 {
     (n % 0x100) as u8

@@ -2,13 +2,10 @@
 use crate::number::bit;
 use crate::number::of_trigger;
 use crate::number::wide;
-use identifiers::types::GicAffinity;
+use attributes::attributes::GicAffinity;
 use interrupt::interrupt::InterruptRecord;
 use interrupt::interrupt::Route;
 use interrupt::interrupt::TargetMask;
-use operation::hidden::inflight;
-use operation::hidden::line;
-use operation::hidden::redelivery;
 use slot::slot::Slot;
 
 const CLAIMED: u64 = 0x80;
@@ -24,8 +21,8 @@ pub const FRESH: u64 = 0x80_0000;
 
 pub fn pack(slot: Slot) -> u64 {
     record(slot.interrupt())
-        | mark(slot.is_claimed(), CLAIMED)
-        | mark(slot.has_fixed_route(), FIXED)
+        | mark(slot.ownership().explicitly_owned, CLAIMED)
+        | mark(slot.ownership().fixed_route, FIXED)
 }
 
 fn mark(on: bool, weight: u64) -> u64 {
@@ -38,12 +35,13 @@ pub fn record(irq: InterruptRecord) -> u64 {
 }
 
 fn flags(irq: InterruptRecord) -> u64 {
-    bit(irq.enabled())
-        | bit(irq.pending()) << 1
-        | bit(irq.active()) << 2
-        | bit(inflight(irq)) << 3
-        | bit(redelivery(irq)) << 4
-        | bit(line(irq)) << 5
+    let life = irq.life();
+    bit(life.enabled)
+        | bit(life.pending) << 1
+        | bit(life.active) << 2
+        | bit(life.inflight) << 3
+        | bit(life.redelivery_pending) << 4
+        | bit(life.line_asserted) << 5
         | of_trigger(irq.trigger()) << 6
 }
 

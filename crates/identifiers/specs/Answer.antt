@@ -35,6 +35,11 @@ carriedBy ShortList = []
 abbrev pub toldRefusal : Refusal → Answer
 toldRefusal f = refused (numberOf f) (carriedBy f)
 
+-- refused 1 with the lowest of these INTIDs, if there is one
+abbrev pub unless : List ℕ → Answer → Answer
+unless [] a = a
+unless (i ∷ is) a = refused 1 (i ∷ [])
+
 -- what each maker's answer says
 abbrev pub toldSgi : SgiIdAnswer → Answer
 toldSgi (SgiIdAnswer.Done i) = done (i .0 ∷ [])

@@ -1,26 +1,21 @@
 // One interrupt's record: what is known of it, and all that can happen to it. Each operation takes the record and hands back
-// the new one. A record that has no route holds the affinity 0.0.0.0, and one that has no target mask the mask 0, so that two
-// records that mean the same are equal.
-use identifiers::types::GicAffinity;
+// the new one. What happens to its flags is said in `life`. A record that has no route holds the affinity 0.0.0.0, and one that
+// has no target mask the mask 0, so that two records that mean the same are equal.
+use attributes::attributes::GicAffinity;
+use attributes::attributes::InterruptState;
+use attributes::attributes::Priority;
+use attributes::attributes::TriggerMode;
 use identifiers::types::IntId;
-use identifiers::types::InterruptState;
-use identifiers::types::Priority;
-use identifiers::types::TriggerMode;
+use life::life::Life;
 ghost use mathlib.Core.Path.{_≡_};
 ghost use mathlib.Core.Bool.{false};
-ghost use Rattle.interrupt.specs.Life.{fresh, enabledTo, pendingTo, activeTo, stateTo, stateIn, hasDelivery, cleared, taken, merged, synchronized, cancelled, deactivated, priorityTo, triggerTo, routeIn, routeTo, unrouted, maskIn, maskTo, levelTo, pulsed, completed, deliverableIn, levelHigh};
+ghost use Rattle.attributes.specs.States.{pendingOf, activeOf};
+ghost use Rattle.life.specs.Life.{enabledTo, pendingTo, activeTo, stateTo, hasDelivery, cleared, taken, cancelled, deactivated, completed};
+ghost use Rattle.interrupt.specs.Records.{fresh, withLife, isLevel, stateIn, synchronizedWith, priorityTo, triggerTo, routeIn, routeTo, unrouted, maskIn, maskTo, lineTo, linePulsed, deliverableIn};
 
 pub struct InterruptRecord {
     intid: IntId,
-    enabled: bool,
-    pending: bool,
-    active: bool,
-    // A core has the interrupt in a list register.
-    inflight: bool,
-    // It came again while in flight, and is to be delivered once more.
-    redelivery_pending: bool,
-    // The line is high.
-    line_asserted: bool,
+    life: Life,
     priority: Priority,
     trigger: TriggerMode,
     // Whether there is a route, and the route.
@@ -56,12 +51,7 @@ impl InterruptRecord {
         let priority = Priority::DEFAULT;
         InterruptRecord {
             intid: intid,
-            enabled: intid.is_sgi(),
-            pending: false,
-            active: false,
-            inflight: false,
-            redelivery_pending: false,
-            line_asserted: false,
+            life: Life::new(intid.is_sgi()),
             priority: priority,
             trigger: trigger,
             routed: false,
@@ -77,124 +67,118 @@ impl InterruptRecord {
         self.intid
     }
 
-    pub fn enabled(self) -> bool
-        ensures { λ r. ⌜ r ≡ self .enabled ⌝ }
+    pub fn life(self) -> Life
+        ensures { λ r. ⌜ r ≡ self .life ⌝ }
     {
-        self.enabled
+        self.life
     }
 
-    pub fn set_enabled(mut self, enabled: bool) -> Self
-        ensures { λ r. ⌜ r ≡ enabledTo enabled self ⌝ }
+    // The record with its flags at other values.
+    fn with_life(mut self, life: Life) -> Self
+        ensures { λ r. ⌜ r ≡ withLife life self ⌝ }
     {
-        self.enabled = enabled;
-        self.pending = self.pending | enabled & self.line_asserted;
+        self.life = life;
         self
+    }
+
+    pub fn enabled(self) -> bool
+        ensures { λ r. ⌜ r ≡ self .life .enabled ⌝ }
+    {
+        self.life.enabled
+    }
+
+    pub fn set_enabled(self, enabled: bool) -> Self
+        ensures { λ r. ⌜ r ≡ withLife (enabledTo enabled (self .life)) self ⌝ }
+    {
+        self.with_life(self.life.set_enabled(enabled))
     }
 
     pub fn pending(self) -> bool
-        ensures { λ r. ⌜ r ≡ self .pending ⌝ }
+        ensures { λ r. ⌜ r ≡ self .life .pending ⌝ }
     {
-        self.pending
+        self.life.pending
     }
 
-    pub fn set_pending(mut self, pending: bool) -> Self
-        ensures { λ r. ⌜ r ≡ pendingTo pending self ⌝ }
+    pub fn set_pending(self, pending: bool) -> Self
+        ensures { λ r. ⌜ r ≡ withLife (pendingTo pending (self .life)) self ⌝ }
     {
-        self.pending = pending;
-        self.redelivery_pending = pending & self.redelivery_pending;
-        self
+        self.with_life(self.life.set_pending(pending))
     }
 
     pub fn active(self) -> bool
-        ensures { λ r. ⌜ r ≡ self .active ⌝ }
+        ensures { λ r. ⌜ r ≡ self .life .active ⌝ }
     {
-        self.active
+        self.life.active
     }
 
-    pub fn set_active(mut self, active: bool) -> Self
-        ensures { λ r. ⌜ r ≡ activeTo active self ⌝ }
+    pub fn set_active(self, active: bool) -> Self
+        ensures { λ r. ⌜ r ≡ withLife (activeTo active (self .life)) self ⌝ }
     {
-        self.active = active;
-        self
+        self.with_life(self.life.set_active(active))
     }
 
     pub fn state(self) -> InterruptState
         ensures { λ r. ⌜ r ≡ stateIn self ⌝ }
     {
-        InterruptState::of(self.pending, self.active)
+        InterruptState::of(self.life.pending, self.life.active)
     }
 
-    pub fn set_state(mut self, state: InterruptState) -> Self
-        ensures { λ r. ⌜ r ≡ stateTo state self ⌝ }
+    pub fn set_state(self, state: InterruptState) -> Self
+        ensures { λ r. ⌜ r ≡ withLife (stateTo (pendingOf state) (activeOf state) (self .life)) self ⌝ }
     {
-        self.pending = state.is_pending();
-        self.active = state.is_active();
-        self
+        self.with_life(self.life.set_state(state.is_pending(), state.is_active()))
     }
 
     pub fn has_delivery_state(self) -> bool
-        ensures { λ r. ⌜ r ≡ hasDelivery self ⌝ }
+        ensures { λ r. ⌜ r ≡ hasDelivery (self .life) ⌝ }
     {
-        self.pending | self.active | self.inflight | self.redelivery_pending
+        self.life.has_delivery_state()
     }
 
-    pub fn clear_delivery_state(mut self) -> Self
-        ensures { λ r. ⌜ r ≡ cleared self ⌝ }
+    pub fn clear_delivery_state(self) -> Self
+        ensures { λ r. ⌜ r ≡ withLife (cleared (self .life)) self ⌝ }
     {
-        self.pending = false;
-        self.active = false;
-        self.inflight = false;
-        self.redelivery_pending = false;
-        self.line_asserted = false;
-        self
+        self.with_life(self.life.clear_delivery_state())
     }
 
-    pub fn mark_inflight(mut self) -> Self
-        ensures { λ r. ⌜ r ≡ taken self ⌝ }
+    pub fn mark_inflight(self) -> Self
+        ensures { λ r. ⌜ r ≡ withLife (taken (self .life)) self ⌝ }
     {
-        self.inflight = true;
-        self
+        self.with_life(self.life.mark_inflight())
     }
 
-    // What the list register says is merged with what came meanwhile.
     pub fn synchronize_inflight(self, state: InterruptState) -> Synchronized
-        ensures { λ r. ⌜ r ≡ record { interrupt = synchronized state self; state = merged state self } ⌝ }
+        ensures { λ r. ⌜ r ≡ record { interrupt = synchronizedWith state self; state = stateIn (synchronizedWith state self) } ⌝ }
     {
-        let mut next = self.set_state(state);
-        next.pending = next.pending | next.redelivery_pending;
-        let merged = next.state();
-        // The list register holds the second delivery now. A mark kept here would deliver it twice.
-        next.redelivery_pending = next.redelivery_pending & !(next.pending & next.active);
+        let life = self.life
+            .synchronize_inflight(state.is_pending(), state.is_active());
+        let next = self.with_life(life);
         Synchronized {
             interrupt: next,
-            state: merged,
+            state: next.state(),
         }
     }
 
-    pub fn cancel_inflight(mut self) -> Self
-        ensures { λ r. ⌜ r ≡ cancelled self ⌝ }
+    pub fn cancel_inflight(self) -> Self
+        ensures { λ r. ⌜ r ≡ withLife (cancelled (self .life)) self ⌝ }
     {
-        self.pending = self.pending | self.redelivery_pending;
-        self.inflight = false;
-        self.redelivery_pending = false;
-        self
+        self.with_life(self.life.cancel_inflight())
     }
 
-    pub fn finish_inflight(mut self) -> Self
-        ensures { λ r. ⌜ r ≡ deactivated false self ⌝ }
+    pub fn finish_inflight(self) -> Self
+        ensures { λ r. ⌜ r ≡ withLife (deactivated (isLevel self) false (self .life)) self ⌝ }
     {
-        self = self.deactivate_inflight(false);
-        self
+        self.deactivate_inflight(false)
     }
 
-    pub fn deactivate_inflight(mut self, pending_in_delivery: bool) -> Self
-        ensures { λ r. ⌜ r ≡ deactivated «pending_in_delivery» self ⌝ }
+    pub fn deactivate_inflight(self, pending_in_delivery: bool) -> Self
+        ensures { λ r. ⌜ r ≡ withLife (deactivated (isLevel self) «pending_in_delivery» (self .life)) self ⌝ }
     {
-        self.pending = pending_in_delivery | self.redelivery_pending | self.level_high();
-        self.inflight = false;
-        self.active = false;
-        self.redelivery_pending = false;
-        self
+        let trigger = self.trigger;
+        self.with_life(
+            self.life
+                .deactivate_inflight(trigger.is_level(), pending_in_delivery),
+        )
     }
 
     pub fn priority(self) -> Priority
@@ -220,16 +204,12 @@ impl InterruptRecord {
         ensures { λ r. ⌜ r ≡ triggerTo trigger self ⌝ }
     {
         let intid = self.intid;
+        let life = self.life;
         let priority = self.priority;
         let route = self.route;
         InterruptRecord {
             intid: intid,
-            enabled: self.enabled,
-            pending: self.pending,
-            active: self.active,
-            inflight: self.inflight,
-            redelivery_pending: self.redelivery_pending,
-            line_asserted: self.line_asserted,
+            life: life,
             priority: priority,
             trigger: trigger,
             routed: self.routed,
@@ -287,47 +267,29 @@ impl InterruptRecord {
         self
     }
 
-    pub fn set_level(mut self, asserted: bool) -> Self
-        ensures { λ r. ⌜ r ≡ levelTo asserted self ⌝ }
+    pub fn set_level(self, asserted: bool) -> Self
+        ensures { λ r. ⌜ r ≡ lineTo asserted self ⌝ }
     {
         let trigger = self.trigger;
-        let rising = asserted & !self.line_asserted;
-        let stays = asserted | self.active | !trigger.is_level();
-        self.pending = asserted | self.pending & stays;
-        self.redelivery_pending = self.redelivery_pending & stays
-            | self.inflight & self.active & rising;
-        self.line_asserted = asserted;
-        self
+        self.with_life(self.life.set_level(trigger.is_level(), asserted))
     }
 
-    // The list register may have gone from pending to active unseen, so a pulse in flight is kept as one more delivery.
-    pub fn pulse(mut self) -> Self
-        ensures { λ r. ⌜ r ≡ pulsed self ⌝ }
+    pub fn pulse(self) -> Self
+        ensures { λ r. ⌜ r ≡ linePulsed self ⌝ }
     {
-        self.pending = true;
-        self.redelivery_pending = self.redelivery_pending | self.inflight;
-        self
+        self.with_life(self.life.pulse())
     }
 
-    pub fn complete(mut self) -> Self
-        ensures { λ r. ⌜ r ≡ completed self ⌝ }
+    pub fn complete(self) -> Self
+        ensures { λ r. ⌜ r ≡ withLife (completed (isLevel self) (self .life)) self ⌝ }
     {
-        self.pending = self.pending | self.level_high();
-        self.active = false;
-        self
+        let trigger = self.trigger;
+        self.with_life(self.life.complete(trigger.is_level()))
     }
 
     pub fn deliverable(self) -> bool
         ensures { λ r. ⌜ r ≡ deliverableIn self ⌝ }
     {
-        self.enabled & self.pending
-    }
-
-    // A level line that is high asks for delivery for as long as it stays high.
-    fn level_high(self) -> bool
-        ensures { λ r. ⌜ r ≡ levelHigh self ⌝ }
-    {
-        let trigger = self.trigger;
-        trigger.is_level() & self.line_asserted
+        self.life.deliverable()
     }
 }

@@ -17,7 +17,7 @@ use types.Kit.{Given}
 use denote.Triple.Statement.{Contract}
 use denote.Triple.Spec.{tripleOf}
 use Rattle.interrupt.specs.declared.interrupt.InterruptRecord.{InterruptRecord}
-use Rattle.interrupt.specs.Life.{levelTo, pulsed}
+use Rattle.interrupt.specs.Records.{lineTo, linePulsed}
 use Rattle.interrupt.proofs.interrupt.InterruptRecord as T
 use Rattle.interrupt.proofs.interrupt.InterruptRecord.Laws as T′
 use Rattle.lent.proofs.Lending.{to, Flag, flag, Changes, leaves-at}
@@ -39,12 +39,12 @@ module _ {M : Type 1} (𝓤 : URA M) (H : Heap 𝓤) (A : Atoms 𝓤) (at-mem : 
     to-pulse α γ = (((α ∷ [], tt), (fullShare, tt), tt, (to l 0 γ h, tt), (vptr l 0 ∷ [], tt)), tt)
 
     module _ (W : Given 𝓤 H A) where
-      pub level-changes : (on : Bool) (α : ℕ) (γ : GName) → Changes 𝓤 H A T.the-type T′.the-laws Level (to-level on α γ) α l γ h (levelTo on h)
+      pub level-changes : (on : Bool) (α : ℕ) (γ : GName) → Changes 𝓤 H A T.the-type T′.the-laws Level (to-level on α γ) α l γ h (lineTo on h)
       level-changes on α γ =
-          leaves-at 𝓤 H A T.the-type T′.the-laws W Level (to-level on α γ) α l γ h (levelTo on h) (Flag on) (flag 𝓤 H A W on)
+          leaves-at 𝓤 H A T.the-type T′.the-laws W Level (to-level on α γ) α l γ h (lineTo on h) (Flag on) (flag 𝓤 H A W on)
           (λ (ws : InterruptRecord × (Unit {0} × Unit {0})). ws .0) (λ ws. fsep ftrue ftrue) (id⊢ 𝓤 _) (λ v. id⊢ 𝓤 _)
 
-      pub pulse-changes : (α : ℕ) (γ : GName) → Changes 𝓤 H A T.the-type T′.the-laws Pulse (to-pulse α γ) α l γ h (pulsed h)
+      pub pulse-changes : (α : ℕ) (γ : GName) → Changes 𝓤 H A T.the-type T′.the-laws Pulse (to-pulse α γ) α l γ h (linePulsed h)
       pulse-changes α γ =
-          leaves-at 𝓤 H A T.the-type T′.the-laws W Pulse (to-pulse α γ) α l γ h (pulsed h) ftrue (id⊢ 𝓤 _)
+          leaves-at 𝓤 H A T.the-type T′.the-laws W Pulse (to-pulse α γ) α l γ h (linePulsed h) ftrue (id⊢ 𝓤 _)
           (λ (ws : InterruptRecord × Unit {0}). ws .0) (λ ws. ftrue) (id⊢ 𝓤 _) (λ v. id⊢ 𝓤 _)

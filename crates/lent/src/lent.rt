@@ -4,24 +4,24 @@
 // and hand it back, so that whoever calls those needs no such proof.
 use interrupt::interrupt::InterruptRecord;
 ghost use mathlib.Core.Path.{_≡_};
-ghost use Rattle.interrupt.specs.Life.{levelTo, pulsed};
+ghost use Rattle.interrupt.specs.Records.{lineTo, linePulsed};
 
 pub fn set_level_in_place(r: &mut InterruptRecord, asserted: bool)
-    ensures { λ _. ⌜ now (r .exit) ≡ levelTo asserted (now (r .entry)) ⌝ }
+    ensures { λ _. ⌜ now (r .exit) ≡ lineTo asserted (now (r .entry)) ⌝ }
 {
     let old = *r;
     *r = old.set_level(asserted);
 }
 
 pub fn pulse_in_place(r: &mut InterruptRecord)
-    ensures { λ _. ⌜ now (r .exit) ≡ pulsed (now (r .entry)) ⌝ }
+    ensures { λ _. ⌜ now (r .exit) ≡ linePulsed (now (r .entry)) ⌝ }
 {
     let old = *r;
     *r = old.pulse();
 }
 
 pub fn set_level_lent(interrupt: InterruptRecord, asserted: bool) -> InterruptRecord
-    ensures { λ r. ⌜ r ≡ levelTo asserted interrupt ⌝ }
+    ensures { λ r. ⌜ r ≡ lineTo asserted interrupt ⌝ }
 {
     let mut lent = interrupt;
     set_level_in_place(&mut lent, asserted);
@@ -29,7 +29,7 @@ pub fn set_level_lent(interrupt: InterruptRecord, asserted: bool) -> InterruptRe
 }
 
 pub fn pulse_lent(interrupt: InterruptRecord) -> InterruptRecord
-    ensures { λ r. ⌜ r ≡ pulsed interrupt ⌝ }
+    ensures { λ r. ⌜ r ≡ linePulsed interrupt ⌝ }
 {
     let mut lent = interrupt;
     pulse_in_place(&mut lent);

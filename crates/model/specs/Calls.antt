@@ -5,9 +5,9 @@ use mathlib.Core.List.{List, [], _∷_}
 use lib.Dec.{leb, eqb}
 use lib.ListN.{length, getD}
 use Rattle.theory.specs.Lists.{mapAt, tabulate, laid, passing}
-use Rattle.identifiers.specs.Answer.{Answer, done, refused, toldRefusal}
-use Rattle.interrupt.specs.Life.{deliverableIn}
-use Rattle.place.specs.Table.{capacity, tableSize, inTable}
+use Rattle.identifiers.specs.Answer.{Answer, done, refused, toldRefusal, unless}
+use Rattle.interrupt.specs.Records.{deliverableIn}
+use Rattle.place.specs.Table.{capacity, createAnswer, tableSize, inTable}
 use Rattle.controller.specs.declared.controller.ControllerConfig.{ControllerConfig}
 use Rattle.controller.specs.Ownership.{explicit}
 use Rattle.controller.specs.Identity.{componentId, iidrValue, switchBit, ctlrValue, typerValue}
@@ -17,13 +17,13 @@ use Rattle.registers.specs.declared.register.Register.the-variants.{Identificat
 use Rattle.registers.specs.declared.register.Access.{Access}
 use Rattle.registers.specs.declared.register.Access.the-variants.{To, Refused}
 use Rattle.registers.specs.declared.register.Direction.the-variants.{Reading}
-use Rattle.registers.specs.Registers.{decode, writeAccess}
+use Rattle.decoding.specs.Decoding.{decode, writeAccess}
 use Rattle.slot.specs.declared.slot.Slot.{Slot}
-use Rattle.slot.specs.Slots.{freshSpi}
+use Rattle.slot.specs.Slots.{freshSpi, changed}
 use Rattle.slot.specs.BankRule.{slotOf, bankValue, bankSlot, bankCandidates, readBeyond, writeBeyond}
-use Rattle.spi.specs.declared.change.Change.{Change}
+use Rattle.changes.specs.declared.change.Change.{Change}
 use Rattle.spi.specs.declared.question.Question.{Question}
-use Rattle.spi.specs.Changes.{changed, changeAnswer}
+use Rattle.spi.specs.ChangeAnswers.{changeAnswer}
 use Rattle.spi.specs.Questions.{valueOf, toldValue}
 
 -- a Distributor: its settings, the master switch, how many SPIs it was made for, and their slots, INTID 32's first
@@ -60,10 +60,6 @@ plain a = record { answer = a; list = [] }
 -- each place holds its own SPI, those past the last SPI too, where nobody looks
 abbrev pub created : ControllerConfig → ℕ → Distributor
 created c n = record { config = c; switch = false; count = n; slots = tabulate (λ p. freshSpi (32 + p)) 0 capacity }
-
--- more SPIs than a table has room for are refused 1, carrying the first INTID past the SPIs
-abbrev pub createAnswer : ℕ → Answer
-createAnswer n = cond (leb n capacity) (done []) (refused 1 (1020 ∷ []))
 
 -- ---- what a call does
 
@@ -116,11 +112,6 @@ unfoldable pub step : Call → Distributor → Distributor
 step k d = record { config = d .config; switch = switchAfter (d .config) (size d) k (d .switch); count = d .count; slots = mapAt (λ p. slotAfter (d .config) (size d) k (32 + p)) (d .slots) }
 
 -- ---- what a call answers
-
--- refused 1 with the lowest of these INTIDs, if there is one
-abbrev pub unless : List ℕ → Answer → Answer
-unless [] a = a
-unless (i ∷ is) a = refused 1 (i ∷ [])
 
 -- the record of INTID i is deliverable
 abbrev pub deliverableAt : List Slot → ℕ → Bool

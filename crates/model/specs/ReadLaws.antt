@@ -1,13 +1,13 @@
 -- A read fits its width.
-use Prim.Native.Nat.{ℕ, _-_, _*_, _^_, _≤_, _<_}
+use Prim.Native.Nat.{ℕ, _*_, _^_, _≤_, _<_}
 use mathlib.Core.Path.{_≡_, refl}
 use mathlib.Core.Bool.{Bool, true, false, cond}
 use mathlib.Core.List.{List, [], _∷_}
 use native.Mathlib.Omega.{arith}
 use lib.Pow.{pow-mono, pow-pos}
 use lib.ListN.{getD}
-use Rattle.identifiers.specs.Answer.{done}
-use Rattle.identifiers.specs.AffinityLaws.{Bytes}
+use Rattle.identifiers.specs.Answer.{done, unless}
+use Rattle.attributes.specs.AffinityLaws.{Bytes}
 use Rattle.registers.specs.declared.register.AccessWidth.{AccessWidth}
 use Rattle.registers.specs.declared.register.AccessWidth.the-variants.{Byte, Word, Dword, Qword}
 use Rattle.bank.specs.declared.bank.Bank.{Bank}
@@ -17,16 +17,17 @@ use Rattle.registers.specs.declared.register.Access.the-variants.{To, Refused}
 use Rattle.registers.specs.declared.register.Direction.the-variants.{Reading}
 use Rattle.place.specs.Table.{inTable}
 use Rattle.bank.specs.Banks.{bitsOf, shown}
-use Rattle.registers.specs.Registers.{bytesOf, decode}
+use Rattle.registers.specs.Registers.{bytesOf}
+use Rattle.decoding.specs.Decoding.{decode}
 use Rattle.controller.specs.Ownership.{explicit}
-use Rattle.slot.specs.Slots.{owned}
+use Rattle.ownership.specs.Owned.{owned}
 use Rattle.slot.specs.BankRule.{slotOf, shownAt, bankValue, readBeyond}
 use Rattle.controller.specs.Identity.{componentId, ctlrValue, typerValue}
-use Rattle.model.specs.Calls.{Distributor, read, size, unless, reply, readReply}
+use Rattle.model.specs.Calls.{Distributor, read, size, reply, readReply}
 use Rattle.theory.specs.Bools.{bit-fits}
 use Rattle.bank.specs.FieldLaws.{packed-fits, pow-pow, shown-fits}
 use Rattle.controller.specs.IdentityLaws.{id-fits}
-use Rattle.registers.specs.WidthLaws.{decode-sound}
+use Rattle.decoding.specs.WidthLaws.{decode-sound}
 
 -- what the code's types say of a state: a priority and an affinity level are bytes
 pub record Typed (d : Distributor) : Type 0 where
@@ -35,7 +36,7 @@ pub record Typed (d : Distributor) : Type 0 where
 
 module _ (d : Distributor) (ok : Typed d) where
   shown-at-fits : (b : Bank) (i : ℕ) → shownAt (explicit (d .config .«spi_ownership»)) (size d) b (d .slots) i < 2 ^ bitsOf b
-  shown-at-fits b i = go (inTable (size d) i) (owned (explicit (d .config .«spi_ownership»)) (slotOf (d .slots) i))
+  shown-at-fits b i = go (inTable (size d) i) (owned (explicit (d .config .«spi_ownership»)) (slotOf (d .slots) i .ownership))
     where
       positive : (k : ℕ) → 0 < 2 ^ k
       positive k = pow-pos k

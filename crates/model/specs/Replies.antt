@@ -1,5 +1,5 @@
 -- What every reply keeps to: the order of the refusals, and what becomes of the lent list.
-use Prim.Native.Nat.{ℕ, _+_, _-_, _≤_, _<_}
+use Prim.Native.Nat.{ℕ, _+_, _≤_, _<_}
 use mathlib.Core.Path.{_≡_}
 use mathlib.Core.Bool.{Bool, true, false, cond}
 use mathlib.Core.List.{List, [], _∷_}
@@ -17,7 +17,8 @@ use Rattle.registers.specs.declared.register.Register.the-variants.{Identificat
 use Rattle.registers.specs.declared.register.Access.{Access}
 use Rattle.registers.specs.declared.register.Access.the-variants.{To, Refused}
 use Rattle.registers.specs.declared.register.Direction.the-variants.{Reading, Writing}
-use Rattle.registers.specs.Registers.{legal, lookup, map, decode, writeAccess}
+use Rattle.registers.specs.Registers.{lookup, map}
+use Rattle.decoding.specs.Decoding.{legal, decode, writeAccess}
 use Rattle.controller.specs.Ownership.{explicit}
 use Rattle.controller.specs.Identity.{switchBit}
 use Rattle.slot.specs.BankRule.{candidate, bankCandidates, writeBeyond}

@@ -24,10 +24,11 @@ use Rattle.registers.specs.declared.register.Register.the-variants.{Identificat
 use Rattle.registers.specs.declared.register.Access.{Access}
 use Rattle.registers.specs.declared.register.Access.the-variants.{To, Refused}
 use Rattle.registers.specs.declared.register.Direction.the-variants.{Writing}
-use Rattle.registers.specs.Registers.{bytesOf, decode, writeAccess}
+use Rattle.registers.specs.Registers.{bytesOf}
+use Rattle.decoding.specs.Decoding.{decode, writeAccess}
 use Rattle.controller.specs.Ownership.{explicit}
 use Rattle.controller.specs.Identity.{switchBit}
-use Rattle.registers.specs.WidthLaws.{decode-covers}
+use Rattle.decoding.specs.WidthLaws.{decode-covers}
 use Rattle.slot.specs.declared.slot.Slot.{Slot}
 use Rattle.slot.specs.BankRule.{bankSlot, candidate, bankCandidates, writeBeyond}
 use Rattle.model.specs.Calls.{Distributor, write, size, writtenAt, switched, writeReply, reply, step}

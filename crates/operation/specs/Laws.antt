@@ -3,24 +3,19 @@ use Prim.Native.Nat.{ℕ}
 use mathlib.Core.Path.{_≡_, refl}
 use mathlib.Core.Bool.{Bool, true, false, not, _&&_, _||_, or-true}
 use Rattle.identifiers.specs.declared.types.IntId.{IntId}
-use Rattle.identifiers.specs.declared.types.GicAffinity.{GicAffinity}
-use Rattle.identifiers.specs.declared.types.Priority.{Priority}
-use Rattle.identifiers.specs.declared.types.TriggerMode.{TriggerMode}
-use Rattle.identifiers.specs.declared.types.InterruptState.{InterruptState}
+use Rattle.attributes.specs.declared.attributes.GicAffinity.{GicAffinity}
+use Rattle.attributes.specs.declared.attributes.Priority.{Priority}
+use Rattle.attributes.specs.declared.attributes.TriggerMode.{TriggerMode}
+use Rattle.attributes.specs.declared.attributes.InterruptState.{InterruptState}
+use Rattle.life.specs.declared.life.Life.{Life}
 use Rattle.interrupt.specs.declared.interrupt.InterruptRecord.{InterruptRecord}
 use Rattle.operation.specs.declared.operation.Operation.{Operation}
 use Rattle.operation.specs.declared.operation.Operation.the-variants.{SetEnabled, SetPending, SetActive, SetState, ClearDeliveryState, MarkInflight, CancelInflight, FinishInflight, DeactivateInflight, SetPriority, SetTrigger, SetRoute, ClearRoute, SetLevel, Pulse, Complete}
-use Rattle.identifiers.specs.Affinity.{affinity}
-use Rattle.identifiers.specs.States.{levelOf, pendingOf, activeOf}
-use Rattle.interrupt.specs.Life.{redelivery, line, fresh, stateIn, merged, enabledTo, pendingTo, activeTo, stateTo, cleared, taken, mergedRecord, synchronized, outOfFlight, cancelled, deactivated, levelHigh, priorityTo, triggerTo, routeTo, unrouted, maskTo, levelTo, raised, lowered, pulsed, completed}
+use Rattle.attributes.specs.Affinity.{affinity}
+use Rattle.attributes.specs.States.{pendingOf, activeOf, stateOf}
+use Rattle.life.specs.Life.{flags, redelivery, line}
+use Rattle.interrupt.specs.Records.{fresh, withLife, isLevel, stateIn, lineTo, linePulsed, synchronizedWith, priorityTo, triggerTo, routeTo, unrouted, maskTo}
 use Rattle.operation.specs.Operation.{applied}
-
--- enabled, pending, active, in flight, redelivery mark, line
-abbrev pub Flags : Type 0
-Flags = Bool × Bool × Bool × Bool × Bool × Bool
-
-abbrev pub flagsOf : InterruptRecord → Flags
-flagsOf r = (r .enabled, r .pending, r .active, r .inflight, redelivery r, line r)
 
 -- priority, trigger, and the route and the target mask, each behind its flag
 abbrev pub Settings : Type 0
@@ -29,33 +24,30 @@ Settings = Priority × TriggerMode × Bool × GicAffinity × Bool × ℕ
 abbrev pub settingsOf : InterruptRecord → Settings
 settingsOf r = (r .priority, r .trigger, r .routed, r .route, r .masked, r .«cpu_target_mask»)
 
--- a level line that is high, by the fields
-abbrev pub highLevel : InterruptRecord → Bool
-highLevel r = levelOf (r .trigger) && line r
-
 -- a level line that goes low lets pending and the mark stand
-abbrev pub stands : InterruptRecord → Bool
-stands r = r .active || not (levelOf (r .trigger))
+abbrev pub stands : Bool → Life → Bool
+stands level f = f .active || not level
 
--- the flags after each operation
-abbrev pub flagsAfter : Operation → InterruptRecord → Flags
-flagsAfter (SetEnabled on) r = (on, r .pending || (on && line r), r .active, r .inflight, redelivery r, line r)
-flagsAfter (SetPending on) r = (r .enabled, on, r .active, r .inflight, on && redelivery r, line r)
-flagsAfter (SetActive on) r = (r .enabled, r .pending, on, r .inflight, redelivery r, line r)
-flagsAfter (SetState s) r = (r .enabled, pendingOf s, activeOf s, r .inflight, redelivery r, line r)
-flagsAfter ClearDeliveryState r = (r .enabled, false, false, false, false, false)
-flagsAfter MarkInflight r = (r .enabled, r .pending, r .active, true, redelivery r, line r)
-flagsAfter CancelInflight r = (r .enabled, r .pending || redelivery r, r .active, false, false, line r)
-flagsAfter FinishInflight r = (r .enabled, redelivery r || highLevel r, false, false, false, line r)
-flagsAfter (DeactivateInflight p) r = (r .enabled, p || redelivery r || highLevel r, false, false, false, line r)
-flagsAfter (SetLevel true) r = (r .enabled, true, r .active, r .inflight, redelivery r || (r .inflight && r .active && not (line r)), true)
-flagsAfter (SetLevel false) r = (r .enabled, r .pending && stands r, r .active, r .inflight, redelivery r && stands r, false)
-flagsAfter Pulse r = (r .enabled, true, r .active, r .inflight, redelivery r || r .inflight, line r)
-flagsAfter Complete r = (r .enabled, r .pending || highLevel r, false, r .inflight, redelivery r, line r)
-flagsAfter (SetPriority p) r = flagsOf r
-flagsAfter (SetTrigger t) r = flagsOf r
-flagsAfter (SetRoute a) r = flagsOf r
-flagsAfter ClearRoute r = flagsOf r
+-- the flags after each operation, of an interrupt that is level-sensitive or not: enabled, pending, active, in flight, redelivery
+-- mark, line
+abbrev pub flagsAfter : Operation → Bool → Life → Life
+flagsAfter (SetEnabled on) level f = flags on (f .pending || (on && line f)) (f .active) (f .inflight) (redelivery f) (line f)
+flagsAfter (SetPending on) level f = flags (f .enabled) on (f .active) (f .inflight) (on && redelivery f) (line f)
+flagsAfter (SetActive on) level f = flags (f .enabled) (f .pending) on (f .inflight) (redelivery f) (line f)
+flagsAfter (SetState s) level f = flags (f .enabled) (pendingOf s) (activeOf s) (f .inflight) (redelivery f) (line f)
+flagsAfter ClearDeliveryState level f = flags (f .enabled) false false false false false
+flagsAfter MarkInflight level f = flags (f .enabled) (f .pending) (f .active) true (redelivery f) (line f)
+flagsAfter CancelInflight level f = flags (f .enabled) (f .pending || redelivery f) (f .active) false false (line f)
+flagsAfter FinishInflight level f = flags (f .enabled) (redelivery f || (level && line f)) false false false (line f)
+flagsAfter (DeactivateInflight p) level f = flags (f .enabled) (p || redelivery f || (level && line f)) false false false (line f)
+flagsAfter (SetLevel true) level f = flags (f .enabled) true (f .active) (f .inflight) (redelivery f || (f .inflight && f .active && not (line f))) true
+flagsAfter (SetLevel false) level f = flags (f .enabled) (f .pending && stands level f) (f .active) (f .inflight) (redelivery f && stands level f) false
+flagsAfter Pulse level f = flags (f .enabled) true (f .active) (f .inflight) (redelivery f || f .inflight) (line f)
+flagsAfter Complete level f = flags (f .enabled) (f .pending || (level && line f)) false (f .inflight) (redelivery f) (line f)
+flagsAfter (SetPriority p) level f = f
+flagsAfter (SetTrigger t) level f = f
+flagsAfter (SetRoute a) level f = f
+flagsAfter ClearRoute level f = f
 
 -- the settings after each operation: a route or a target mask, never both, and 0 for what is absent
 abbrev pub settingsAfter : Operation → InterruptRecord → Settings
@@ -82,8 +74,8 @@ mark : (p d a : Bool) → (d && not ((p || d) && a)) ≡ (d && not a)
 mark p true a = simp or-true
 mark p false a = refl
 
-pub flags-after : (o : Operation) (r : InterruptRecord) → flagsOf (applied o r) ≡ flagsAfter o r
-unfolding enabledTo pendingTo activeTo stateTo cleared taken outOfFlight cancelled deactivated levelHigh priorityTo triggerTo routeTo unrouted levelTo raised lowered pulsed completed
+pub flags-after : (o : Operation) (r : InterruptRecord) → (applied o r) .life ≡ flagsAfter o (isLevel r) (r .life)
+unfolding withLife lineTo linePulsed priorityTo triggerTo routeTo unrouted
 flags-after (SetEnabled on) r = refl
 flags-after (SetPending on) r = refl
 flags-after (SetActive on) r = refl
@@ -103,7 +95,7 @@ flags-after (SetRoute a) r = refl
 flags-after ClearRoute r = refl
 
 pub settings-after : (o : Operation) (r : InterruptRecord) → settingsOf (applied o r) ≡ settingsAfter o r
-unfolding enabledTo pendingTo activeTo stateTo cleared taken outOfFlight cancelled deactivated levelHigh priorityTo triggerTo routeTo unrouted levelTo raised lowered pulsed completed
+unfolding withLife lineTo linePulsed priorityTo triggerTo routeTo unrouted
 settings-after (SetEnabled on) r = refl
 settings-after (SetPending on) r = refl
 settings-after (SetActive on) r = refl
@@ -123,7 +115,7 @@ settings-after (SetRoute a) r = refl
 settings-after ClearRoute r = refl
 
 pub intid-kept : (o : Operation) (r : InterruptRecord) → (applied o r) .intid ≡ r .intid
-unfolding enabledTo pendingTo activeTo stateTo cleared taken outOfFlight cancelled deactivated levelHigh priorityTo triggerTo routeTo unrouted levelTo raised lowered pulsed completed
+unfolding withLife lineTo linePulsed priorityTo triggerTo routeTo unrouted
 intid-kept (SetEnabled on) r = refl
 intid-kept (SetPending on) r = refl
 intid-kept (SetActive on) r = refl
@@ -143,9 +135,9 @@ intid-kept (SetRoute a) r = refl
 intid-kept ClearRoute r = refl
 
 -- a record is its INTID, its flags and its settings
-pub record-path : (r s : InterruptRecord) → r .intid ≡ s .intid → flagsOf r ≡ flagsOf s → settingsOf r ≡ settingsOf s → r ≡ s
+pub record-path : (r s : InterruptRecord) → r .intid ≡ s .intid → r .life ≡ s .life → settingsOf r ≡ settingsOf s → r ≡ s
 record-path r s i f g =
-    λ k. record { intid = i k; enabled = f k .0; pending = f k .1; active = f k .2; inflight = f k .3; «redelivery_pending» = f k .4; «line_asserted» = f k .5; priority = g k .0; trigger = g k .1; routed = g k .2; route = g k .3; masked = g k .4; «cpu_target_mask» = g k .5 }
+    λ k. record { intid = i k; life = f k; priority = g k .0; trigger = g k .1; routed = g k .2; route = g k .3; masked = g k .4; «cpu_target_mask» = g k .5 }
 
 -- ---- a new record
 
@@ -156,20 +148,20 @@ fresh-settings i t = refl
 -- ---- a synchronisation, and a target mask
 
 pub synchronized-flags : (s : InterruptState) (r : InterruptRecord)
-    → flagsOf (synchronized s r) ≡ (r .enabled, pendingOf s || redelivery r, activeOf s, r .inflight, redelivery r && not (activeOf s), line r)
-unfolding stateTo mergedRecord synchronized
-synchronized-flags s r = rw (mark (pendingOf s) (redelivery r) (activeOf s))
+    → (synchronizedWith s r) .life ≡ let f = r .life in flags (f .enabled) (pendingOf s || redelivery f) (activeOf s) (f .inflight) (redelivery f && not (activeOf s)) (line f)
+unfolding withLife synchronizedWith
+synchronized-flags s r = rw (mark (pendingOf s) (redelivery (r .life)) (activeOf s))
 
-pub synchronized-settings : (s : InterruptState) (r : InterruptRecord) → settingsOf (synchronized s r) ≡ settingsOf r
-unfolding stateTo mergedRecord synchronized
+pub synchronized-settings : (s : InterruptState) (r : InterruptRecord) → settingsOf (synchronizedWith s r) ≡ settingsOf r
+unfolding withLife synchronizedWith
 synchronized-settings s r = refl
 
--- the state that a synchronisation answers is that of the record that it hands back
-pub merged-is : (s : InterruptState) (r : InterruptRecord) → merged s r ≡ stateIn (synchronized s r)
-unfolding merged synchronized mergedRecord stateIn
+-- the state that a synchronisation answers is the list register's, and pending besides where there is a redelivery mark
+pub merged-is : (s : InterruptState) (r : InterruptRecord) → stateIn (synchronizedWith s r) ≡ stateOf (pendingOf s || redelivery (r .life)) (activeOf s)
+unfolding stateIn withLife synchronizedWith
 merged-is s r = refl
 
-pub mask-flags : (m : ℕ) (r : InterruptRecord) → flagsOf (maskTo m r) ≡ flagsOf r
+pub mask-flags : (m : ℕ) (r : InterruptRecord) → (maskTo m r) .life ≡ r .life
 unfolding maskTo
 mask-flags m r = refl
 
@@ -178,8 +170,8 @@ unfolding maskTo
 mask-settings m r = refl
 
 -- neither changes the INTID
-pub synchronized-intid : (s : InterruptState) (r : InterruptRecord) → (synchronized s r) .intid ≡ r .intid
-unfolding stateTo mergedRecord synchronized
+pub synchronized-intid : (s : InterruptState) (r : InterruptRecord) → (synchronizedWith s r) .intid ≡ r .intid
+unfolding withLife synchronizedWith
 synchronized-intid s r = refl
 
 pub mask-intid : (m : ℕ) (r : InterruptRecord) → (maskTo m r) .intid ≡ r .intid

@@ -4,18 +4,18 @@ use Prim.Native.Nat.{ℕ}
 use mathlib.Core.Path.{_≡_, refl, sym, subst⁻¹, _∙_}
 use mathlib.Core.Bool.{Bool, true, false, _&&_, cond, true≢false}
 use Rattle.identifiers.specs.declared.types.IntId.{IntId}
-use Rattle.identifiers.specs.declared.types.GicAffinity.{GicAffinity}
-use Rattle.identifiers.specs.declared.types.TriggerMode.{TriggerMode}
-use Rattle.identifiers.specs.declared.types.InterruptState.{InterruptState}
+use Rattle.attributes.specs.declared.attributes.GicAffinity.{GicAffinity}
+use Rattle.attributes.specs.declared.attributes.TriggerMode.{TriggerMode}
+use Rattle.attributes.specs.declared.attributes.InterruptState.{InterruptState}
 use Rattle.interrupt.specs.declared.interrupt.InterruptRecord.{InterruptRecord}
 use Rattle.interrupt.specs.declared.interrupt.Route.{Route}
 use Rattle.interrupt.specs.declared.interrupt.TargetMask.{TargetMask}
 use Rattle.operation.specs.declared.operation.Operation.{Operation}
 use Rattle.operation.specs.declared.operation.Operation.the-variants.{SetEnabled, SetPending, SetActive, SetState, ClearDeliveryState, MarkInflight, CancelInflight, FinishInflight, DeactivateInflight, SetPriority, SetTrigger, SetRoute, ClearRoute, SetLevel, Pulse, Complete}
-use Rattle.identifiers.specs.Affinity.{affinity}
-use Rattle.interrupt.specs.Life.{fresh, synchronized, maskTo, routeIn, maskIn}
+use Rattle.attributes.specs.Affinity.{affinity}
+use Rattle.interrupt.specs.Records.{fresh, synchronizedWith, maskTo, routeIn, maskIn}
 use Rattle.operation.specs.Operation.{applied}
-use Rattle.operation.specs.Laws.{Settings, settingsOf, settingsAfter, flagsOf, settings-after, fresh-settings, synchronized-settings, mask-settings, record-path}
+use Rattle.operation.specs.Laws.{Settings, settingsOf, settingsAfter, settings-after, fresh-settings, synchronized-settings, mask-settings, record-path}
 
 abbrev pub Tidy : Settings → Type 0
 Tidy s = (s .2 ≡ false → s .3 ≡ affinity 0 0 0 0) × (s .4 ≡ false → s .5 ≡ 0) × ((s .2 && s .4) ≡ false)
@@ -45,7 +45,7 @@ tidy-after ClearRoute r h = ((λ e. refl), h .1, refl)
 pub tidy-kept : (o : Operation) (r : InterruptRecord) → Tidy (settingsOf r) → Tidy (settingsOf (applied o r))
 tidy-kept o r h = subst⁻¹ Tidy (settings-after o r) (tidy-after o r h)
 
-pub tidy-synchronized : (s : InterruptState) (r : InterruptRecord) → Tidy (settingsOf r) → Tidy (settingsOf (synchronized s r))
+pub tidy-synchronized : (s : InterruptState) (r : InterruptRecord) → Tidy (settingsOf r) → Tidy (settingsOf (synchronizedWith s r))
 tidy-synchronized s r h = subst⁻¹ Tidy (synchronized-settings s r) h
 
 pub tidy-mask : (m : ℕ) (r : InterruptRecord) → Tidy (settingsOf (maskTo m r))
@@ -69,7 +69,7 @@ pub same-meaning :
     Tidy (settingsOf r) →
     Tidy (settingsOf s) →
     r .intid ≡ s .intid →
-    flagsOf r ≡ flagsOf s →
+    r .life ≡ s .life →
     r .priority ≡ s .priority →
     r .trigger ≡ s .trigger →
     routeIn r ≡ routeIn s →

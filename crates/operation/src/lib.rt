@@ -1,3 +1,2 @@
-// The operations that change a record, as values; and the flags that a record keeps to itself.
-pub mod hidden;
+// The operations that change a record, as values.
 pub mod operation;

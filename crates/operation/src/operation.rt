@@ -1,9 +1,9 @@
 // The operations that only change a record, as values: a caller names one, and `apply` does it. Two are not among them: a
 // synchronisation also answers a state, and a target mask waits on whether the SPI's route is fixed, which no record knows.
-use identifiers::types::GicAffinity;
-use identifiers::types::InterruptState;
-use identifiers::types::Priority;
-use identifiers::types::TriggerMode;
+use attributes::attributes::GicAffinity;
+use attributes::attributes::InterruptState;
+use attributes::attributes::Priority;
+use attributes::attributes::TriggerMode;
 use interrupt::interrupt::InterruptRecord;
 ghost use mathlib.Core.Path.{_≡_};
 ghost use Rattle.operation.specs.Operation.{applied};

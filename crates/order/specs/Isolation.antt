@@ -5,79 +5,65 @@ use mathlib.Core.Bool.{Bool, true, false, not, _&&_, _||_, cond, true≢false}
 use mathlib.Core.List.{List, [], _∷_}
 use lib.ListN.{length}
 use Rattle.theory.specs.MapAtLaws.{relates-mapAt}
-use Rattle.identifiers.specs.Answer.{done}
-use Rattle.identifiers.specs.Affinity.{fromMpidr}
-use Rattle.operation.specs.declared.operation.Operation.the-variants.{SetRoute}
+use Rattle.identifiers.specs.Answer.{done, unless}
 use Rattle.place.specs.Table.{tableSize, inTable}
 use Rattle.controller.specs.declared.controller.ControllerConfig.{ControllerConfig}
 use Rattle.controller.specs.Ownership.{explicit}
-use Rattle.bank.specs.declared.bank.Field.{Field}
-use Rattle.bank.specs.declared.bank.Field.the-variants.{Group, Priority, Configuration}
 use Rattle.bank.specs.declared.bank.Bank.{Bank}
-use Rattle.bank.specs.declared.bank.Bank.the-variants.{Set, Clear, Replace}
-use Rattle.bank.specs.Banks.{shown, acts, field}
+use Rattle.bank.specs.Banks.{shown, acts, lists, field}
 use Rattle.bank.specs.BankLaws.{packed-same}
 use Rattle.registers.specs.declared.register.AccessWidth.{AccessWidth}
 use Rattle.registers.specs.declared.register.Register.the-variants.{Identification, Ctlr, Typer, Iidr, Fields, Reserved}
 use Rattle.registers.specs.declared.register.Access.{Access}
 use Rattle.registers.specs.declared.register.Access.the-variants.{To, Refused}
 use Rattle.registers.specs.declared.register.Direction.the-variants.{Reading}
-use Rattle.registers.specs.Registers.{decode, writeAccess}
+use Rattle.decoding.specs.Decoding.{decode, writeAccess}
 use Rattle.slot.specs.declared.slot.Slot.{Slot}
-use Rattle.slot.specs.Slots.{owned, operated, showing, replaced, written}
+use Rattle.ownership.specs.Owned.{owned}
+use Rattle.effect.specs.declared.effect.FieldEffect.{FieldEffect}
+use Rattle.effect.specs.Effects.{effectOf, untouched}
+use Rattle.slot.specs.Slots.{showing, effected}
 use Rattle.slot.specs.NoSlot.{noSlot}
 use Rattle.slot.specs.BankRule.{slotOf, covers, shownAt, bankSlot, readBeyond}
-use Rattle.model.specs.Calls.{Distributor, read, write, plain, size, writtenAt, slotAfter, step, unless, readReply, reply}
+use Rattle.model.specs.Calls.{Distributor, read, write, plain, size, writtenAt, slotAfter, step, readReply, reply}
 use Rattle.order.specs.OrderFacts.{stateWith}
 
 -- ---- a guest write
 
 -- what a slot was and what it is: the claim and the fixed mark are the same, and all of it is where the SPI is unowned
 pub record Spared (explicit : Bool) (was is : Slot) : Type 0 where
-  pub claim : is .«explicitly_owned» ≡ was .«explicitly_owned»
-  pub mark : is .«fixed_route» ≡ was .«fixed_route»
-  pub unowned : owned explicit was ≡ false → is ≡ was
+  pub claim : is .ownership .«explicitly_owned» ≡ was .ownership .«explicitly_owned»
+  pub mark : is .ownership .«fixed_route» ≡ was .ownership .«fixed_route»
+  pub unowned : owned explicit (was .ownership) ≡ false → is ≡ was
 
 module _ (e : Bool) where
-  untouched : (s : Slot) → Spared e s s
-  untouched s = record { claim = refl; mark = refl; unowned = λ h. refl }
+  still : (s : Slot) → Spared e s s
+  still s = record { claim = refl; mark = refl; unowned = λ h. refl }
 
   -- a record may be replaced in an owned slot
-  spared : (s t : Slot) → owned e s ≡ true → t .«explicitly_owned» ≡ s .«explicitly_owned» → t .«fixed_route» ≡ s .«fixed_route» → Spared e s t
+  spared : (s t : Slot) → owned e (s .ownership) ≡ true → t .ownership .«explicitly_owned» ≡ s .ownership .«explicitly_owned» → t .ownership .«fixed_route» ≡ s .ownership .«fixed_route» → Spared e s t
   spared s t own p q = record { claim = p; mark = q; unowned = λ h. absurd (true≢false (sym own ∙ h)) }
 
-  replaced-spares : (x : Field) (f : ℕ) (s : Slot) → owned e s ≡ true → Spared e s (replaced x f s)
-  replaced-spares Group f s own = untouched s
-  replaced-spares Priority f s own = spared s _ own refl refl
-  replaced-spares Configuration f s own = spared s _ own refl refl
-  replaced-spares Field.Route f s own = go (s .«fixed_route»)
-    where
-      go : (b : Bool) → Spared e s (cond b s (operated (SetRoute (fromMpidr f)) s))
-      go true = untouched s
-      go false = spared s _ own refl refl
-
-  written-spares : (b : Bank) (f : ℕ) (s : Slot) → owned e s ≡ true → Spared e s (written b f s)
-  written-spares (Set x) f s own = spared s _ own refl refl
-  written-spares (Clear x) f s own = spared s _ own refl refl
-  written-spares (Replace x) f s own = replaced-spares x f s own
-
   bank-spares : (n : ℕ) (b : Bank) (v lo m i : ℕ) (s : Slot) → Spared e s (bankSlot e n b v lo m i s)
-  bank-spares n b v lo m i s = go (covers n lo m i) (acts b (field b v lo i)) (owned e s) refl
+  bank-spares n b v lo m i s = go (covers n lo m i) (acts b (field b v lo i)) (owned e (s .ownership)) refl
     where
-      go : (x y o : Bool) → owned e s ≡ o → Spared e s (cond x (cond (y && o) (written b (field b v lo i) s) s) s)
-      go true true true own = written-spares b (field b v lo i) s own
-      go true true false own = untouched s
-      go true false o own = untouched s
-      go false y o own = untouched s
+      does : FieldEffect
+      does = record { effect = effectOf (s .ownership .«fixed_route») b (field b v lo i); lists = lists b }
+
+      go : (x y o : Bool) → owned e (s .ownership) ≡ o → Spared e s (cond x (effected (cond (y && o) does untouched .effect) s) s)
+      go true true true own = spared s (effected (does .effect) s) own refl refl
+      go true true false own = still s
+      go true false o own = still s
+      go false y o own = still s
 
 access-spares : (c : ControllerConfig) (n : ℕ) (a : Access) (v i : ℕ) (s : Slot) → Spared (explicit (c .«spi_ownership»)) s (writtenAt c n a v i s)
-access-spares c n (Refused f) v i s = untouched _ s
-access-spares c n (To (Identification k)) v i s = untouched _ s
-access-spares c n (To Ctlr) v i s = untouched _ s
-access-spares c n (To Typer) v i s = untouched _ s
-access-spares c n (To Iidr) v i s = untouched _ s
+access-spares c n (Refused f) v i s = still _ s
+access-spares c n (To (Identification k)) v i s = still _ s
+access-spares c n (To Ctlr) v i s = still _ s
+access-spares c n (To Typer) v i s = still _ s
+access-spares c n (To Iidr) v i s = still _ s
 access-spares c n (To (Fields b lo m)) v i s = bank-spares _ n b v lo m i s
-access-spares c n (To Reserved) v i s = untouched _ s
+access-spares c n (To Reserved) v i s = still _ s
 
 -- a guest write changes no claim, no fixed mark and no unowned record
 pub guest-write-spares : (d : Distributor) (offset : ℕ) (w : AccessWidth) (v : ℕ) (list : List ℕ) (i : ℕ)
@@ -85,16 +71,16 @@ pub guest-write-spares : (d : Distributor) (offset : ℕ) (w : AccessWidth) (v :
 unfolding step
 guest-write-spares d offset w v list i =
     relates-mapAt (Spared (explicit (d .config .«spi_ownership»))) (λ p. slotAfter (d .config) (size d) (write offset w v list) (32 + p)) (i - 32) (d .slots) noSlot
-    (untouched _ noSlot)
+    (still _ noSlot)
     (access-spares (d .config) (size d) (writeAccess (length list) (size d) (d .config .«distributor_size») offset w) v (32 + (i - 32)) (slotOf (d .slots) i))
 
 -- ---- a guest read
 
 -- alike but for the contents of an unowned record
 pub record AlikeSlot (explicit : Bool) (s t : Slot) : Type 0 where
-  pub claim : s .«explicitly_owned» ≡ t .«explicitly_owned»
-  pub mark : s .«fixed_route» ≡ t .«fixed_route»
-  pub interrupt : owned explicit s ≡ true → s .interrupt ≡ t .interrupt
+  pub claim : s .ownership .«explicitly_owned» ≡ t .ownership .«explicitly_owned»
+  pub mark : s .ownership .«fixed_route» ≡ t .ownership .«fixed_route»
+  pub interrupt : owned explicit (s .ownership) ≡ true → s .interrupt ≡ t .interrupt
 
 -- two states alike but for the contents of unowned records
 pub record Alike (d e : Distributor) : Type 0 where
@@ -105,10 +91,10 @@ pub record Alike (d e : Distributor) : Type 0 where
 
 showing-alike : (e : Bool) (b : Bank) (s t : Slot) → AlikeSlot e s t → showing e b s ≡ showing e b t
 showing-alike e b s t h =
-    let same : owned e s ≡ owned e t = ap (λ (o : Bool). not e || o) (h .claim) in
-    go (owned e s) refl same
+    let same : owned e (s .ownership) ≡ owned e (t .ownership) = ap (λ (o : Bool). not e || o) (h .claim) in
+    go (owned e (s .ownership)) refl same
   where
-    go : (o : Bool) → owned e s ≡ o → o ≡ owned e t → cond o (shown b (s .interrupt)) 0 ≡ cond (owned e t) (shown b (t .interrupt)) 0
+    go : (o : Bool) → owned e (s .ownership) ≡ o → o ≡ owned e (t .ownership) → cond o (shown b (s .interrupt)) 0 ≡ cond (owned e (t .ownership)) (shown b (t .interrupt)) 0
     go true own p = rw (← p) (ap (shown b) (h .interrupt own))
     go false own p = rw (← p)
 

@@ -11,7 +11,7 @@ use Rattle.registers.specs.declared.register.Register.the-variants.{Identificat
 use Rattle.registers.specs.declared.register.Access.{Access}
 use Rattle.registers.specs.declared.register.Access.the-variants.{To, Refused}
 use Rattle.registers.specs.declared.register.Direction.the-variants.{Reading}
-use Rattle.registers.specs.Registers.{decode, writeAccess}
+use Rattle.decoding.specs.Decoding.{decode, writeAccess}
 use Rattle.slot.specs.BankRule.{covers}
 use Rattle.model.specs.Calls.{Call, create, read, write, isSwitchedOn, rollback, change, ask}
 

@@ -14,12 +14,15 @@ use Rattle.controller.specs.declared.controller.ControllerConfig.{ControllerCon
 use Rattle.slot.specs.declared.slot.Slot.{Slot}
 use Rattle.place.specs.Table.{tableSize}
 use Rattle.controller.specs.Ownership.{explicit}
-use Rattle.bank.specs.Banks.{acts, field}
+use Rattle.bank.specs.Banks.{acts, lists, field}
 use Rattle.registers.specs.declared.register.Register.the-variants.{Identification, Ctlr, Typer, Iidr, Fields, Reserved}
 use Rattle.registers.specs.declared.register.Access.{Access}
 use Rattle.registers.specs.declared.register.Access.the-variants.{To, Refused}
-use Rattle.registers.specs.Registers.{writeAccess}
-use Rattle.slot.specs.Slots.{owned, written}
+use Rattle.decoding.specs.Decoding.{writeAccess}
+use Rattle.ownership.specs.Owned.{owned}
+use Rattle.effect.specs.declared.effect.FieldEffect.{FieldEffect}
+use Rattle.effect.specs.Effects.{effectOf, untouched}
+use Rattle.slot.specs.Slots.{effected}
 use Rattle.slot.specs.NoSlot.{noSlot}
 use Rattle.slot.specs.BankRule.{slotOf, covers}
 use Rattle.model.specs.Calls.{Distributor, Call, create, read, write, isSwitchedOn, rollback, change, ask, size, writtenAt, slotAfter, switched, switchAfter, step}
@@ -42,10 +45,11 @@ contents (spi i) d = slotAt (d .slots) i
 -- ---- a call keeps what it does not name
 
 -- a field that is not covered, or does not act, leaves the slot
-unwritten : (covered acting own : Bool) (t s : Slot) → (covered && acting) ≡ false → cond covered (cond (acting && own) t s) s ≡ s
-unwritten true true own t s e = absurd (true≢false e)
-unwritten true false own t s e = refl
-unwritten false acting own t s e = refl
+unwritten : (covered acting own : Bool) (does : FieldEffect) (s : Slot) → (covered && acting) ≡ false
+    → cond covered (effected (cond (acting && own) does untouched .effect) s) s ≡ s
+unwritten true true own does s e = absurd (true≢false e)
+unwritten true false own does s e = refl
+unwritten false acting own does s e = refl
 
 module _ (c : ControllerConfig) (n : ℕ) where
   write-switch : (a : Access) (v : ℕ) (on : Bool) → writeNames n a v theSwitch ≡ false → switched c n a v on ≡ on
@@ -75,7 +79,7 @@ module _ (c : ControllerConfig) (n : ℕ) where
   write-slot (To Iidr) v i s e = refl
   write-slot (To (Fields b lo m)) v i s e =
       let f = field b v lo i in
-      unwritten (covers n lo m i) (acts b f) (owned (explicit (c .«spi_ownership»)) s) (written b f s) s e
+      unwritten (covers n lo m i) (acts b f) (owned (explicit (c .«spi_ownership»)) (s .ownership)) (record { effect = effectOf (s .ownership .«fixed_route») b f; lists = lists b }) s e
   write-slot (To Reserved) v i s e = refl
 
   slot-kept : (k : Call) (i : ℕ) (s : Slot) → names c n k (spi i) ≡ false → slotAfter c n k i s ≡ s

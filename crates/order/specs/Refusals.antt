@@ -1,7 +1,7 @@
 -- A refused call changes nothing, save a guest write that was refused for running beyond the table; nor does a call that only asks.
 use Prim.Native.Nat.{ℕ, _+_, _-_}
 use mathlib.Core.Path.{_≡_, refl, sym, ap, _∙_}
-use mathlib.Core.Bool.{Bool, true, false, _&&_, cond, true≢false}
+use mathlib.Core.Bool.{Bool, true, false, not, _&&_, cond, true≢false}
 use mathlib.Core.List.{List, [], _∷_}
 use mathlib.Core.Option.{Option, none, some, Option·map}
 use native.Mathlib.Omega.{arith}
@@ -16,13 +16,14 @@ use Rattle.controller.specs.Ownership.{explicit}
 use Rattle.registers.specs.declared.register.Register.the-variants.{Identification, Ctlr, Typer, Iidr, Fields, Reserved}
 use Rattle.registers.specs.declared.register.Access.{Access}
 use Rattle.registers.specs.declared.register.Access.the-variants.{To, Refused}
-use Rattle.registers.specs.Registers.{writeAccess}
+use Rattle.decoding.specs.Decoding.{writeAccess}
 use Rattle.slot.specs.declared.slot.Slot.{Slot}
+use Rattle.slot.specs.Slots.{changed}
 use Rattle.slot.specs.NoSlot.{noSlot}
 use Rattle.slot.specs.BankRule.{slotOf, bankCandidates, writeBeyond}
-use Rattle.spi.specs.declared.change.Change.{Change}
-use Rattle.spi.specs.declared.change.Change.the-variants.{Claim, ClaimTo, Release, SetCpuTargetMask, SynchronizeInflight, Operate}
-use Rattle.spi.specs.Changes.{changed, claimAnswer, changeAnswer}
+use Rattle.changes.specs.declared.change.Change.{Change}
+use Rattle.changes.specs.declared.change.Change.the-variants.{Claim, ClaimTo, Release, SetCpuTargetMask, SynchronizeInflight, Operate}
+use Rattle.spi.specs.ChangeAnswers.{claimAnswer, changeAnswer}
 use Rattle.model.specs.Calls.{Distributor, Call, create, read, write, isSwitchedOn, rollback, change, ask, size, writtenAt, changedAt, slotAfter, switched, switchAfter, step, onSpi, listingUnless, writeReply, reply}
 
 -- a guest write that is refused 1
@@ -74,10 +75,10 @@ module _ (d : Distributor) where
   asking-still (ask q raw) e = still (ask q raw) refl (λ p s at. refl)
 
   module _ (r : ℕ) (ws : List ℕ) where
-    claim-still : (s t : Slot) → claimAnswer s ≡ refused r ws → cond (s .«explicitly_owned») s t ≡ s
-    claim-still s t e = go (s .«explicitly_owned») e
+    claim-still : (s t : Slot) → claimAnswer (s .ownership .«explicitly_owned») ≡ refused r ws → cond (not (s .ownership .«explicitly_owned»)) t s ≡ s
+    claim-still s t e = go (s .ownership .«explicitly_owned») e
       where
-        go : (b : Bool) → cond b (refused 2 []) (done []) ≡ refused r ws → cond b s t ≡ s
+        go : (b : Bool) → cond b (refused 2 []) (done []) ≡ refused r ws → cond (not b) t s ≡ s
         go true h = refl
         go false h = never [] ws r h
 

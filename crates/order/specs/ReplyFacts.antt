@@ -9,8 +9,8 @@ use lib.ListN.{length}
 use Rattle.theory.specs.Bools.{both}
 use Rattle.theory.specs.Lists.{passing}
 use Rattle.theory.specs.ListLaws.{passing-agree}
-use Rattle.identifiers.specs.Answer.{Answer, done, refused, within}
-use Rattle.interrupt.specs.Life.{deliverableIn}
+use Rattle.identifiers.specs.Answer.{Answer, done, refused, within, unless}
+use Rattle.interrupt.specs.Records.{deliverableIn}
 use Rattle.place.specs.Table.{tableSize, inTable}
 use Rattle.controller.specs.declared.controller.ControllerConfig.{ControllerConfig}
 use Rattle.controller.specs.Ownership.{explicit}
@@ -22,13 +22,16 @@ use Rattle.registers.specs.declared.register.Register.the-variants.{Identificat
 use Rattle.registers.specs.declared.register.Access.{Access}
 use Rattle.registers.specs.declared.register.Access.the-variants.{To, Refused}
 use Rattle.registers.specs.declared.register.Direction.the-variants.{Reading}
-use Rattle.registers.specs.Registers.{decode, writeAccess}
+use Rattle.decoding.specs.Decoding.{decode, writeAccess}
 use Rattle.slot.specs.declared.slot.Slot.{Slot}
-use Rattle.slot.specs.Slots.{owned, showing, written}
+use Rattle.ownership.specs.Owned.{owned}
+use Rattle.effect.specs.declared.effect.FieldEffect.{FieldEffect}
+use Rattle.effect.specs.Effects.{effectOf, untouched}
+use Rattle.slot.specs.Slots.{showing, effected}
 use Rattle.slot.specs.BankRule.{slotOf, covers, shownAt, bankValue, candidate, bankCandidates, readBeyond, writeBeyond}
-use Rattle.spi.specs.Changes.{changeAnswer}
+use Rattle.spi.specs.ChangeAnswers.{changeAnswer}
 use Rattle.spi.specs.Questions.{valueOf, toldValue}
-use Rattle.model.specs.Calls.{Distributor, Call, create, read, write, isSwitchedOn, rollback, change, ask, plain, unless, deliverableAt, onSpi, readReply, listing, listingUnless, switchCandidates, writeReply, reply}
+use Rattle.model.specs.Calls.{Distributor, Call, create, read, write, isSwitchedOn, rollback, change, ask, plain, deliverableAt, onSpi, readReply, listing, listingUnless, switchCandidates, writeReply, reply}
 use Rattle.order.specs.Names.{theSwitch, spi, readNames, writeNames, names}
 use Rattle.order.specs.OrderFacts.{stateWith}
 
@@ -56,7 +59,9 @@ module _ (n : ℕ) (l l′ : List Slot) where
   candidates-same e b v lo m h = passing-agree (candidate e n b v lo m l) (candidate e n b v lo m l′) lo m (λ i p q. go i (covers n lo m i) (acts b (field b v lo i)) refl refl)
     where
       test : ℕ → Bool → Bool → Slot → Bool
-      test i x y s = x && (y && owned e s && lists b && deliverableIn (written b (field b v lo i) s .interrupt))
+      test i x y s =
+          let does : FieldEffect = cond (y && owned e (s .ownership)) (record { effect = effectOf (s .ownership .«fixed_route») b (field b v lo i); lists = lists b }) untouched in
+          x && (does .lists && deliverableIn (effected (does .effect) s .interrupt))
 
       go : (i : ℕ) (x y : Bool) → covers n lo m i ≡ x → acts b (field b v lo i) ≡ y → test i x y (slotOf l i) ≡ test i x y (slotOf l′ i)
       go i true true p q = ap (test i true true) (h i (rw (p, q)) (both (within lo (lo + m) i) _ p .1))

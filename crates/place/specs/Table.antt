@@ -2,14 +2,27 @@
 use Prim.Native.Nat.{ℕ, _+_, _-_, min, max}
 use mathlib.Core.Bool.{Bool, _&&_, cond}
 use mathlib.Core.List.{[], _∷_}
+use lib.Dec.{leb}
 use Rattle.identifiers.specs.Answer.{Answer, done, refused, toldRefusal, within}
 use Rattle.place.specs.declared.place.Span.{Span}
+use Rattle.place.specs.declared.place.CreateAnswer.{CreateAnswer}
 use Rattle.place.specs.declared.place.PlaceAnswer.{PlaceAnswer}
 use Rattle.place.specs.declared.place.PlaceAnswer.the-variants.{Done, Refused}
 
 -- how many SPIs a table has room for
 abbrev pub capacity : ℕ
 capacity = 988
+
+-- more SPIs than a table has room for are refused 1, carrying the first INTID past the SPIs; such a creation makes none
+abbrev pub createAnswer : ℕ → Answer
+createAnswer n = cond (leb n capacity) (done []) (refused 1 (1020 ∷ []))
+
+abbrev pub createdCount : ℕ → ℕ
+createdCount n = cond (leb n capacity) n 0
+
+abbrev pub toldCreate : CreateAnswer → Answer
+toldCreate CreateAnswer.Done = done []
+toldCreate (CreateAnswer.Refused f) = toldRefusal f
 
 abbrev pub tableSize : ℕ → ℕ
 tableSize count = min count capacity

@@ -10,9 +10,10 @@ use Rattle.identifiers.specs.Answer.{done, refused, toldRefusal}
 use Rattle.identifiers.specs.AnswerLaws.{told-refusal}
 use Rattle.identifiers.specs.declared.error.Refusal.{Refusal}
 use Rattle.identifiers.specs.declared.error.Refusal.the-variants.{InvalidIntId}
+use Rattle.place.specs.declared.place.CreateAnswer.{CreateAnswer}
 use Rattle.place.specs.declared.place.PlaceAnswer.{PlaceAnswer}
 use Rattle.place.specs.declared.place.PlaceAnswer.the-variants.{Done, Refused}
-use Rattle.place.specs.Table.{inTable, toldPlace, placeAnswer}
+use Rattle.place.specs.Table.{inTable, toldCreate, toldPlace, placeAnswer}
 
 -- an INTID that the table has
 pub in-range : (n i : ℕ) → inTable n i ≡ true → (32 ≤ i) × (i < 32 + n)
@@ -39,3 +40,9 @@ told-place (Done p) (Done q) e = let x : p .0 ≡ q .0 = cc in ap (λ (n : ℕ).
 told-place (Done p) (Refused g) e = cc
 told-place (Refused f) (Done q) e = cc
 told-place (Refused f) (Refused g) e = ap Refused (told-refusal f g e)
+
+pub told-create : (a b : CreateAnswer) → toldCreate a ≡ toldCreate b → a ≡ b
+told-create CreateAnswer.Done CreateAnswer.Done e = refl
+told-create CreateAnswer.Done (CreateAnswer.Refused g) e = cc
+told-create (CreateAnswer.Refused f) CreateAnswer.Done e = cc
+told-create (CreateAnswer.Refused f) (CreateAnswer.Refused g) e = ap CreateAnswer.Refused (told-refusal f g e)

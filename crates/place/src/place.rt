@@ -2,7 +2,7 @@
 use identifiers::error::Refusal;
 ghost use mathlib.Core.Path.{_≡_};
 ghost use Prim.Native.Nat.{_+_, _-_, min, max};
-ghost use Rattle.place.specs.Table.{capacity, tableSize, inTable, toldPlace, placeAnswer, spanOf};
+ghost use Rattle.place.specs.Table.{capacity, createAnswer, createdCount, toldCreate, tableSize, inTable, toldPlace, placeAnswer, spanOf};
 
 // How many SPIs a table has room for: INTIDs 32 to 1019.
 pub const SPIS: usize = 988;
@@ -18,6 +18,34 @@ pub struct Span {
 pub enum PlaceAnswer {
     Done(Place),
     Refused(Refusal),
+}
+
+// What a creation answers.
+pub enum CreateAnswer {
+    Done,
+    Refused(Refusal),
+}
+
+// More SPIs than a table has room for are refused, carrying 1020, the first INTID past the SPIs.
+pub fn create_answer(spi_count: u32) -> CreateAnswer
+    ensures { λ r. ⌜ toldCreate r ≡ createAnswer «spi_count» ⌝ }
+{
+    if spi_count <= SPIS as u32 {
+        CreateAnswer::Done
+    } else {
+        CreateAnswer::Refused(Refusal::InvalidIntId(1020))
+    }
+}
+
+// How many SPIs a creation makes: none where it is refused.
+pub fn created_count(spi_count: u32) -> u32
+    ensures { λ r. ⌜ r ≡ createdCount «spi_count» ⌝ }
+{
+    if spi_count <= SPIS as u32 {
+        spi_count
+    } else {
+        0
+    }
 }
 
 // How many SPIs there are in a table that was made for so many: never more than it has room for.
@@ -77,7 +105,7 @@ impl Place {
     }
 
     // The place of INTID i, of which is known that the table has it. (An INTID that is no SPI's is taken to the nearest that is.)
-    pub fn of(i: u32) -> Self
+    pub fn nearest(i: u32) -> Self
         ensures { λ r. ⌜ r .0 ≡ min (i - 32) (capacity - 1) ⌝ }
     {
         if i < 32 {

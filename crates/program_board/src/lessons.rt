@@ -6,12 +6,12 @@ use crate::read_byte;
 use crate::show;
 use crate::spi;
 use crate::write;
+use attributes::attributes::InterruptState;
+use attributes::attributes::TriggerMode;
+use changes::change::Change;
 use distributor::distributor::DistributorState;
-use identifiers::types::InterruptState;
-use identifiers::types::TriggerMode;
 use operation::operation::Operation;
 use registers::register::AccessWidth;
-use spi::change::Change;
 use spi::question::Question;
 
 fn host(d: DistributorState, raw: u32, operation: Operation) -> DistributorState {

@@ -1,8 +1,9 @@
 // The board's examples, run on the code: the twelve cases on K, those that are run besides, and the lessons. What is printed is held
 // to the file stdout beside src/.
+use answers::answer::ReadAnswer;
+use attributes::attributes::GicAffinity;
 use controller::controller::ControllerConfig;
 use controller::controller::GicV3SpiOwnership;
-use distributor::create::CreateAnswer;
 use distributor::create::Created;
 use distributor::distributor::DistributorState;
 use distributor::host::Changed;
@@ -12,9 +13,8 @@ use host::host::pulse;
 use host::host::release_spi_claim;
 use host::host::set_enabled;
 use host::host::set_level;
-use identifiers::types::GicAffinity;
 use identifiers::types::SpiId;
-use registers::answer::ReadAnswer;
+use place::place::CreateAnswer;
 use registers::register::AccessWidth;
 use spi::question::Question;
 

@@ -1,8 +1,8 @@
 // What a call answered, as words.
+use answers::answer::ReadAnswer;
+use answers::answer::WriteAnswer;
 use identifiers::error::Refusal;
 use libc::STDOUT_FILENO;
-use registers::answer::ReadAnswer;
-use registers::answer::WriteAnswer;
 use spi::question::QuestionAnswer;
 use spi::question::Value;
 

@@ -5,37 +5,37 @@
 mod flags;
 mod operations;
 
-use crate::flags::Flags;
-use interrupt::interrupt::InterruptRecord;
+use attributes::attributes::TriggerMode;
 
-// Every combination with every operation.
-const STEPS: u32 = flags::COUNT * operations::COUNT;
+// Every combination of the flags and a trigger, with every operation.
+const STEPS: u32 = flags::COUNT * 2 * operations::COUNT;
 
-// One operation on the record.
-fn step(from: InterruptRecord, k: u32) {
-    let action = operations::nth(k);
-    flags::show(Flags::of(from));
-    flags::text(b": ");
-    action.show();
-    flags::text(b": ");
-    flags::show(Flags::of(action.on(from)));
-    flags::text(b"\n");
-}
-
-// A combination that no record was made with is passed over. That none is missed shows in the lines: each that is led to is walked
-// too.
-fn walk(n: u32, k: u32) {
-    let wanted = Flags::nth(n);
-    let made = wanted.made();
-    if wanted.same(Flags::of(made)) {
-        step(made, k);
+// One operation on a record with the n-th combination. A combination that no record was made with is passed over. That none is
+// missed shows in the lines: each that is led to is walked too.
+fn walk(n: u32, trigger: TriggerMode, k: u32) {
+    let wanted = flags::nth(n);
+    let from = flags::made(wanted, trigger);
+    if flags::same(wanted, from.life()) {
+        let action = operations::nth(k);
+        flags::show(from);
+        flags::text(b": ");
+        action.show();
+        flags::text(b": ");
+        flags::show(action.on(from));
+        flags::text(b"\n");
     }
 }
 
 fn main() {
     let mut i = 0;
     while i < STEPS {
-        walk(i / operations::COUNT, i % operations::COUNT);
+        let n = i / operations::COUNT;
+        let trigger = if n % 2 == 0 {
+            TriggerMode::Edge
+        } else {
+            TriggerMode::Level
+        };
+        walk(n / 2, trigger, i % operations::COUNT);
         i += 1;
     }
 }

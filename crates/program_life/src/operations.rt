@@ -1,9 +1,9 @@
 // What can happen to a record, with its arguments. The settings' arguments are one example each: no flag rests on them.
 use crate::flags::text;
-use identifiers::types::GicAffinity;
-use identifiers::types::InterruptState;
-use identifiers::types::Priority;
-use identifiers::types::TriggerMode;
+use attributes::attributes::GicAffinity;
+use attributes::attributes::InterruptState;
+use attributes::attributes::Priority;
+use attributes::attributes::TriggerMode;
 use interrupt::interrupt::InterruptRecord;
 use operation::operation::Operation;
 use operation::operation::apply;

@@ -1,31 +1,17 @@
--- What the code's contracts speak of besides the map: the row past the last, and the bounds of what is decoded.
-use Prim.Native.Nat.{_+_, _*_, _≤_, _<_}
-use Rattle.bank.specs.Banks.{bitsOf}
-use Rattle.registers.specs.declared.register.Widths.the-variants.{Any}
-use Rattle.registers.specs.declared.register.Kind.{Kind}
-use Rattle.registers.specs.declared.register.Row.{Row}
-use Rattle.registers.specs.declared.register.Register.{Register}
-use Rattle.registers.specs.declared.register.Register.the-variants.{Identification, Ctlr, Typer, Iidr, Fields, Reserved}
-use Rattle.registers.specs.Registers.{row}
+-- The map in the code's numbers.
+use Prim.Native.Nat.{ℕ}
+use lib.ListN.{getD}
+use Rattle.registers.specs.declared.register.Row as code
+use Rattle.registers.specs.Registers.{Kind, ctlr, Row, row, map}
 
--- a row that holds nothing
+-- past the last row: it holds nothing
 abbrev pub noRow : Row
-noRow = row 0 0 1 Any Any Kind.Ctlr
+noRow = row 0 0 0 0 0 ctlr
 
--- the fields that an access covers fit 64 bits
-abbrev pub Bounded : Register → Type 0
-Bounded (Identification k) = Unit {0}
-Bounded Ctlr = Unit {0}
-Bounded Typer = Unit {0}
-Bounded Iidr = Unit {0}
-Bounded (Fields b lo m) = (lo < 0x10000) × (m ≤ 64) × (bitsOf b * m ≤ 64)
-Bounded Reserved = Unit {0}
+-- all of a row but what lies there
+abbrev pub numbersOf : Row → code.Row
+numbersOf r = record { 0 = r .from; 1 = r .end; 2 = r .every; 3 = r .reads; 4 = r .writes }
 
--- they are all of INTIDs under 32, or none is
-abbrev pub Whole : Register → Type 0
-Whole (Identification k) = Unit {0}
-Whole Ctlr = Unit {0}
-Whole Typer = Unit {0}
-Whole Iidr = Unit {0}
-Whole (Fields b lo m) = lo < 32 → lo + m ≤ 32
-Whole Reserved = Unit {0}
+-- what lies in row k of the map
+abbrev pub kindAt : ℕ → Kind
+kindAt k = getD map k noRow .kind

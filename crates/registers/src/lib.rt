@@ -1,3 +1,2 @@
-// The register map, how an access is decoded, and what it answers. No table is in here.
-pub mod answer;
+// The register map, and which register an access reaches.
 pub mod register;

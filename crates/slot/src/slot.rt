@@ -1,30 +1,24 @@
 // One SPI: what a bank shows of it, what a written field does to it, and what the host makes of it. No table is in here.
+use attributes::attributes::TriggerMode;
 use bank::bank::Bank;
-use bank::bank::Field;
-use bank::bank::Flag;
-use bank::bank::trigger_in;
-use identifiers::types::GicAffinity;
+use changes::change::Change;
+use effect::effect::Effect;
+use effect::effect::written;
 use identifiers::types::IntId;
-use identifiers::types::InterruptState;
-use identifiers::types::Priority;
 use identifiers::types::SpiId;
-use identifiers::types::TriggerMode;
 use interrupt::interrupt::InterruptRecord;
-use operation::operation::Operation;
 use operation::operation::apply;
+use ownership::ownership::Ownership;
 ghost use mathlib.Core.Path.{_≡_};
 ghost use Prim.Native.Nat.{_^_, _<_};
 ghost use Rattle.bank.specs.Banks.{bitsOf};
-ghost use Rattle.interrupt.specs.Life.{deliverableIn};
-ghost use Rattle.slot.specs.Slots.{freshSpi, owned, operated, setting, clearing, replacedRoute, replaced, written, touches, showing, fieldWritten, fieldListed, claimed, claimedTo, released, maskSet, synchronizedTo};
+ghost use Rattle.interrupt.specs.Records.{deliverableIn};
+ghost use Rattle.slot.specs.Slots.{freshSpi, showing, made, fieldWritten, fieldListed, changed};
 
 // Only the functions below make a slot or change one, and nothing puts a slot into a Distributor from outside.
 pub struct Slot {
     interrupt: InterruptRecord,
-    // The host has claimed the SPI for the guest.
-    explicitly_owned: bool,
-    // The claim was physical: the guest cannot move the route.
-    fixed_route: bool,
+    ownership: Ownership,
 }
 
 // What a written field leaves of an SPI, and whether the SPI is listed.
@@ -33,25 +27,12 @@ pub struct FieldWritten {
     pub listed: bool,
 }
 
-// ISENABLER, ISPENDR, ISACTIVER.
-fn setting(flag: Flag) -> Operation
-    ensures { λ r. ⌜ r ≡ setting flag ⌝ }
+fn made(interrupt: InterruptRecord, effect: Effect) -> InterruptRecord
+    ensures { λ r. ⌜ r ≡ made effect interrupt ⌝ }
 {
-    match flag {
-        Flag::Enabled => Operation::SetEnabled(true),
-        Flag::Pending => Operation::SetPending(true),
-        Flag::Active => Operation::SetActive(true),
-    }
-}
-
-// ICENABLER, ICPENDR, ICACTIVER.
-fn clearing(flag: Flag) -> Operation
-    ensures { λ r. ⌜ r ≡ clearing flag ⌝ }
-{
-    match flag {
-        Flag::Enabled => Operation::SetEnabled(false),
-        Flag::Pending => Operation::SetPending(false),
-        Flag::Active => Operation::Complete,
+    match effect {
+        Effect::Leave => interrupt,
+        Effect::Apply(operation) => apply(interrupt, operation),
     }
 }
 
@@ -62,8 +43,10 @@ impl Slot {
     {
         Slot {
             interrupt: InterruptRecord::new(IntId::Spi(spi), TriggerMode::Level),
-            explicitly_owned: false,
-            fixed_route: false,
+            ownership: Ownership {
+                explicitly_owned: false,
+                fixed_route: false,
+            },
         }
     }
 
@@ -73,191 +56,54 @@ impl Slot {
         self.interrupt
     }
 
-    pub fn is_claimed(self) -> bool
-        ensures { λ r. ⌜ r ≡ self .«explicitly_owned» ⌝ }
+    pub fn ownership(self) -> Ownership
+        ensures { λ r. ⌜ r ≡ self .ownership ⌝ }
     {
-        self.explicitly_owned
-    }
-
-    pub fn has_fixed_route(self) -> bool
-        ensures { λ r. ⌜ r ≡ self .«fixed_route» ⌝ }
-    {
-        self.fixed_route
-    }
-
-    // With all guest-owned every SPI counts as owned; otherwise the claim decides.
-    fn owned(self, explicit: bool) -> bool
-        ensures { λ r. ⌜ r ≡ owned explicit self ⌝ }
-    {
-        !explicit | self.explicitly_owned
+        self.ownership
     }
 
     // What an SPI shows: nothing where it is not owned.
     pub fn showing(self, explicit: bool, bank: Bank) -> u64
         ensures { λ r. ⌜ (r ≡ showing explicit bank self) × (r < 2 ^ bitsOf bank) ⌝ }
     {
-        let interrupt = self.interrupt;
-        if self.owned(explicit) {
-            bank.shown(interrupt)
-        } else {
-            0
-        }
+        self.ownership.visible(explicit, bank.shown(self.interrupt))
     }
 
     // Enabled and pending, owned or not.
     pub fn is_deliverable(self) -> bool
         ensures { λ r. ⌜ r ≡ deliverableIn (self .interrupt) ⌝ }
     {
-        let interrupt = self.interrupt;
-        interrupt.deliverable()
-    }
-
-    pub fn operated(self, operation: Operation) -> Self
-        ensures { λ r. ⌜ r ≡ operated operation self ⌝ }
-    {
-        let interrupt = self.interrupt;
-        Slot {
-            interrupt: apply(interrupt, operation),
-            explicitly_owned: self.explicitly_owned,
-            fixed_route: self.fixed_route,
-        }
-    }
-
-    // A fixed route stays.
-    fn routed(self, affinity: GicAffinity) -> Self
-        ensures { λ r. ⌜ r ≡ replacedRoute affinity self ⌝ }
-    {
-        if self.fixed_route {
-            self
-        } else {
-            self.operated(Operation::SetRoute(affinity))
-        }
-    }
-
-    // What a field replaces, and with what.
-    fn replaced(self, kept: Field, field: u64) -> Self
-        ensures { λ r. ⌜ r ≡ replaced kept field self ⌝ }
-    {
-        match kept {
-            Field::Group => self,
-            Field::Priority => self.operated(Operation::SetPriority(Priority::new(
-                (field % 256) as u8,
-            ))),
-            Field::Configuration => self.operated(Operation::SetTrigger(trigger_in(field))),
-            Field::Route => self.routed(GicAffinity::from_mpidr(field)),
-        }
-    }
-
-    // What a field that acts makes of an owned SPI.
-    fn written(self, bank: Bank, field: u64) -> Self
-        ensures { λ r. ⌜ r ≡ written bank field self ⌝ }
-    {
-        match bank {
-            Bank::Set(flag) => self.operated(setting(flag)),
-            Bank::Clear(flag) => self.operated(clearing(flag)),
-            Bank::Replace(kept) => self.replaced(kept, field),
-        }
-    }
-
-    // A field touches an owned SPI, if it acts.
-    fn is_touched(self, explicit: bool, bank: Bank, field: u64) -> bool
-        ensures { λ r. ⌜ r ≡ touches explicit bank field self ⌝ }
-    {
-        bank.acts(field) & self.owned(explicit)
+        self.interrupt.deliverable()
     }
 
     // A field is written to an SPI of the table.
     pub fn write_field(self, explicit: bool, bank: Bank, field: u64) -> FieldWritten
         ensures { λ r. ⌜ (r .slot ≡ fieldWritten explicit bank field self) × (r .listed ≡ fieldListed explicit bank field self) ⌝ }
     {
-        if self.is_touched(explicit, bank, field) {
-            let new = self.written(bank, field);
-            FieldWritten {
-                slot: new,
-                listed: bank.lists() & new.is_deliverable(),
-            }
-        } else {
-            FieldWritten {
-                slot: self,
-                listed: false,
-            }
+        let ownership = self.ownership;
+        let does = written(explicit, ownership, bank, field);
+        let effect = does.effect;
+        let next = made(self.interrupt, effect);
+        FieldWritten {
+            slot: Slot {
+                interrupt: next,
+                ownership: ownership,
+            },
+            listed: does.lists & next.deliverable(),
         }
     }
-}
 
-// What the host does.
-impl Slot {
-    // By software a claim leaves the record.
-    pub fn claimed(self) -> Self
-        ensures { λ r. ⌜ r ≡ claimed self ⌝ }
+    // The host changes an SPI of the table.
+    pub fn changed(self, change: Change) -> Self
+        ensures { λ r. ⌜ r ≡ changed change self ⌝ }
     {
-        let interrupt = self.interrupt;
-        if self.explicitly_owned {
-            self
-        } else {
+        if change.happens(self.ownership) {
             Slot {
-                interrupt: interrupt,
-                explicitly_owned: true,
-                fixed_route: false,
+                interrupt: change.record_after(self.interrupt),
+                ownership: change.ownership_after(self.ownership),
             }
-        }
-    }
-
-    // Physically it sets the route and fixes it.
-    pub fn claimed_to(self, affinity: GicAffinity) -> Self
-        ensures { λ r. ⌜ r ≡ claimedTo affinity self ⌝ }
-    {
-        let interrupt = self.interrupt;
-        if self.explicitly_owned {
-            self
         } else {
-            Slot {
-                interrupt: apply(interrupt, Operation::SetRoute(affinity)),
-                explicitly_owned: true,
-                fixed_route: true,
-            }
-        }
-    }
-
-    // Claim, mark and route go, and the SPI is level-sensitive; the rest of the record stays.
-    pub fn released(self) -> Self
-        ensures { λ r. ⌜ r ≡ released self ⌝ }
-    {
-        let interrupt = self.interrupt;
-        let unrouted = apply(interrupt, Operation::ClearRoute);
-        Slot {
-            interrupt: apply(unrouted, Operation::SetTrigger(TriggerMode::Level)),
-            explicitly_owned: false,
-            fixed_route: false,
-        }
-    }
-
-    // A target mask changes nothing where the route is fixed.
-    pub fn mask_set(self, mask: u8) -> Self
-        ensures { λ r. ⌜ r ≡ maskSet mask self ⌝ }
-    {
-        let interrupt = self.interrupt;
-        if self.fixed_route {
             self
-        } else {
-            Slot {
-                interrupt: interrupt.set_cpu_target_mask(mask),
-                explicitly_owned: self.explicitly_owned,
-                fixed_route: self.fixed_route,
-            }
-        }
-    }
-
-    pub fn synchronized_to(self, state: InterruptState) -> Self
-        ensures { λ r. ⌜ r ≡ synchronizedTo state self ⌝ }
-    {
-        let interrupt = self.interrupt;
-        let s = interrupt.synchronize_inflight(state);
-        let next = s.interrupt;
-        Slot {
-            interrupt: next,
-            explicitly_owned: self.explicitly_owned,
-            fixed_route: self.fixed_route,
         }
     }
 }

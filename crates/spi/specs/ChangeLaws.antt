@@ -1,11 +1,11 @@
 -- No two answers of the host's changes are told alike.
 use mathlib.Core.Path.{_≡_, refl, ap}
-use Rattle.identifiers.specs.States.{stateNumber}
-use Rattle.identifiers.specs.StateLaws.{state-same}
+use Rattle.attributes.specs.States.{stateNumber}
+use Rattle.attributes.specs.StateLaws.{state-same}
 use Rattle.identifiers.specs.AnswerLaws.{told-refusal}
 use Rattle.spi.specs.declared.change.Given.{Given}
 use Rattle.spi.specs.declared.change.ChangeAnswer.{ChangeAnswer}
-use Rattle.spi.specs.Changes.{toldGiven, toldChange}
+use Rattle.spi.specs.ChangeAnswers.{toldGiven, toldChange}
 
 given-same : (g h : Given) → toldGiven g ≡ toldGiven h → g ≡ h
 given-same Given.Nothing Given.Nothing e = refl

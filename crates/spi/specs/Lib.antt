@@ -1,3 +1,3 @@
-pub mod Changes
+pub mod ChangeAnswers
 pub mod ChangeLaws
 pub mod Questions

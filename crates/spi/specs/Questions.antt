@@ -3,9 +3,10 @@ use Prim.Native.Nat.{ℕ}
 use mathlib.Core.Bool.{not}
 use mathlib.Core.List.{List, [], _∷_}
 use Rattle.identifiers.specs.Answer.{Answer, done, toldRefusal, rawOf}
-use Rattle.identifiers.specs.Affinity.{mpidrOf}
-use Rattle.identifiers.specs.States.{levelOf, stateNumber}
-use Rattle.interrupt.specs.Life.{stateIn, hasDelivery, routeIn, maskIn, deliverableIn}
+use Rattle.attributes.specs.Affinity.{mpidrOf}
+use Rattle.attributes.specs.States.{levelOf, stateNumber}
+use Rattle.life.specs.Life.{hasDelivery}
+use Rattle.interrupt.specs.Records.{stateIn, routeIn, maskIn, deliverableIn}
 use Rattle.interrupt.specs.declared.interrupt.Route.{Route}
 use Rattle.interrupt.specs.declared.interrupt.TargetMask.{TargetMask}
 use Rattle.bank.specs.Banks.{bit}
@@ -23,18 +24,18 @@ maskOrOne TargetMask.Unset = 1
 
 abbrev pub valueOf : Question → Slot → Value
 valueOf Intid s = Value.Intid (rawOf (s .interrupt .intid))
-valueOf Enabled s = Value.Flag (s .interrupt .enabled)
-valueOf Pending s = Value.Flag (s .interrupt .pending)
-valueOf Active s = Value.Flag (s .interrupt .active)
+valueOf Enabled s = Value.Flag (s .interrupt .life .enabled)
+valueOf Pending s = Value.Flag (s .interrupt .life .pending)
+valueOf Active s = Value.Flag (s .interrupt .life .active)
 valueOf State s = Value.State (stateIn (s .interrupt))
-valueOf HasDeliveryState s = Value.Flag (hasDelivery (s .interrupt))
+valueOf HasDeliveryState s = Value.Flag (hasDelivery (s .interrupt .life))
 valueOf Priority s = Value.Priority (s .interrupt .priority)
 valueOf Trigger s = Value.Trigger (s .interrupt .trigger)
 valueOf Question.Route s = Value.Route (routeIn (s .interrupt))
 valueOf CpuTargetMask s = Value.Mask (maskOrOne (maskIn (s .interrupt)))
 valueOf Deliverable s = Value.Flag (deliverableIn (s .interrupt))
-valueOf IsClaimed s = Value.Flag (s .«explicitly_owned»)
-valueOf HasFixedRoute s = Value.Flag (s .«fixed_route»)
+valueOf IsClaimed s = Value.Flag (s .ownership .«explicitly_owned»)
+valueOf HasFixedRoute s = Value.Flag (s .ownership .«fixed_route»)
 
 -- ---- in the paper's terms
 

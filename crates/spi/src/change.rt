@@ -1,26 +1,14 @@
-// What the host does to an SPI, named, and what it answers.
+// What a change of the host answers.
+use attributes::attributes::InterruptState;
+use changes::change::Change;
 use identifiers::error::Refusal;
-use identifiers::types::GicAffinity;
-use identifiers::types::InterruptState;
-use operation::operation::Operation;
 use slot::slot::Slot;
 ghost use mathlib.Core.Path.{_≡_};
 ghost use mathlib.Core.List.{_∷_, []};
 ghost use Rattle.identifiers.specs.Answer.{done};
-ghost use Rattle.identifiers.specs.States.{stateNumber};
-ghost use Rattle.interrupt.specs.Life.{merged};
-ghost use Rattle.spi.specs.Changes.{changed, claimAnswer, changeAnswer, toldChange};
-
-pub enum Change {
-    // By software.
-    Claim,
-    // Physically, with the route that is then fixed.
-    ClaimTo(GicAffinity),
-    Release,
-    SetCpuTargetMask(u8),
-    SynchronizeInflight(InterruptState),
-    Operate(Operation),
-}
+ghost use Rattle.attributes.specs.States.{stateNumber};
+ghost use Rattle.interrupt.specs.Records.{stateIn, synchronizedWith};
+ghost use Rattle.spi.specs.ChangeAnswers.{claimAnswer, changeAnswer, toldChange};
 
 // What a change that was done gives back.
 pub enum Given {
@@ -34,24 +22,10 @@ pub enum ChangeAnswer {
     Refused(Refusal),
 }
 
-// The slot after a change. One that is refused changes nothing.
-pub fn changed(slot: Slot, change: Change) -> Slot
-    ensures { λ r. ⌜ r ≡ changed change slot ⌝ }
+fn claim_answer(claimed: bool) -> ChangeAnswer
+    ensures { λ r. ⌜ toldChange r ≡ claimAnswer claimed ⌝ }
 {
-    match change {
-        Change::Claim => slot.claimed(),
-        Change::ClaimTo(affinity) => slot.claimed_to(affinity),
-        Change::Release => slot.released(),
-        Change::SetCpuTargetMask(mask) => slot.mask_set(mask),
-        Change::SynchronizeInflight(state) => slot.synchronized_to(state),
-        Change::Operate(operation) => slot.operated(operation),
-    }
-}
-
-fn claim_answer(slot: Slot) -> ChangeAnswer
-    ensures { λ r. ⌜ toldChange r ≡ claimAnswer slot ⌝ }
-{
-    if slot.is_claimed() {
+    if claimed {
         ChangeAnswer::Refused(Refusal::ResourceConflict)
     } else {
         ChangeAnswer::Done(Given::Nothing)
@@ -59,7 +33,7 @@ fn claim_answer(slot: Slot) -> ChangeAnswer
 }
 
 fn merged_state(slot: Slot, state: InterruptState) -> ChangeAnswer
-    ensures { λ r. ⌜ toldChange r ≡ done (stateNumber (merged state (slot .interrupt)) ∷ []) ⌝ }
+    ensures { λ r. ⌜ toldChange r ≡ done (stateNumber (stateIn (synchronizedWith state (slot .interrupt))) ∷ []) ⌝ }
 {
     let s = slot.interrupt().synchronize_inflight(state);
     let merged = s.state;
@@ -71,8 +45,8 @@ pub fn change_answer(slot: Slot, change: Change) -> ChangeAnswer
     ensures { λ r. ⌜ toldChange r ≡ changeAnswer change slot ⌝ }
 {
     match change {
-        Change::Claim => claim_answer(slot),
-        Change::ClaimTo(_) => claim_answer(slot),
+        Change::Claim => claim_answer(slot.ownership().explicitly_owned),
+        Change::ClaimTo(_) => claim_answer(slot.ownership().explicitly_owned),
         Change::Release => ChangeAnswer::Done(Given::Nothing),
         Change::SetCpuTargetMask(_) => ChangeAnswer::Done(Given::Nothing),
         Change::SynchronizeInflight(state) => merged_state(slot, state),

@@ -1,3 +1,3 @@
-// One SPI as the host sees it: what he does to it, and what he asks about it, named.
+// One SPI as the host sees it: what a change answers, and what he asks about it, named.
 pub mod change;
 pub mod question;

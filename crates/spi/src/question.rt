@@ -1,8 +1,8 @@
 // What the host asks about an SPI, named, and what is answered.
+use attributes::attributes::InterruptState;
+use attributes::attributes::Priority;
+use attributes::attributes::TriggerMode;
 use identifiers::error::Refusal;
-use identifiers::types::InterruptState;
-use identifiers::types::Priority;
-use identifiers::types::TriggerMode;
 use interrupt::interrupt::Route;
 use interrupt::interrupt::TargetMask;
 use slot::slot::Slot;
@@ -73,8 +73,8 @@ pub fn value_of(slot: Slot, question: Question) -> Value
         Question::Route => Value::Route(interrupt.route()),
         Question::CpuTargetMask => Value::Mask(mask_or_one(interrupt.cpu_target_mask())),
         Question::Deliverable => Value::Flag(interrupt.deliverable()),
-        Question::IsClaimed => Value::Flag(slot.is_claimed()),
-        Question::HasFixedRoute => Value::Flag(slot.has_fixed_route()),
+        Question::IsClaimed => Value::Flag(slot.ownership().explicitly_owned),
+        Question::HasFixedRoute => Value::Flag(slot.ownership().fixed_route),
     }
 }
 

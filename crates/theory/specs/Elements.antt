@@ -48,7 +48,7 @@ module _ {A : Type 0} where
   at-mapAt f l i = at-mapFrom f 0 l i i (omega arith)
 
   -- what stands in a tabulated list
-  pub at-tabulate : (f : ℕ → A) (k n i : ℕ) (x : A) → getElem? (tabulate f k n) i ≡ some x → f (k + i) ≡ x
-  at-tabulate f k zero i x e = absurd (Option·none-ne-some x e)
-  at-tabulate f k (suc n) zero x e = let z : k + 0 ≡ k = omega arith in rw z (Option·some-injective (f k) x e)
-  at-tabulate f k (suc n) (suc i) x e = let z : k + suc i ≡ suc k + i = omega arith in rw z (at-tabulate f (suc k) n i x e)
+  pub element-of-tabulate : (f : ℕ → A) (k n i : ℕ) (x : A) → getElem? (tabulate f k n) i ≡ some x → f (k + i) ≡ x
+  element-of-tabulate f k zero i x e = absurd (Option·none-ne-some x e)
+  element-of-tabulate f k (suc n) zero x e = let z : k + 0 ≡ k = omega arith in rw z (Option·some-injective (f k) x e)
+  element-of-tabulate f k (suc n) (suc i) x e = let z : k + suc i ≡ suc k + i = omega arith in rw z (element-of-tabulate f (suc k) n i x e)

@@ -15,16 +15,16 @@ module _ {A : Type 0} where
   pub length-laid : (xs l : List A) → length xs ≤ length l → length (laid xs l) ≡ length l
   length-laid xs l h = simp (length-append, length-drop) (omega arith)
 
-  at-tabulate : (f : ℕ → A) (k n i : ℕ) (d : A) → i < n → getD (tabulate f k n) i d ≡ f (k + i)
-  at-tabulate f k zero i d h = absurd (not-suc-le-zero h)
-  at-tabulate f k (suc n) zero d h = rw (add-zero k)
-  at-tabulate f k (suc n) (suc i) d h = at-tabulate f (suc k) n i d (le-of-suc-le-suc h) ∙ (let e : suc k + i ≡ k + suc i = omega arith in rw e)
+  getD-tabulate : (f : ℕ → A) (k n i : ℕ) (d : A) → i < n → getD (tabulate f k n) i d ≡ f (k + i)
+  getD-tabulate f k zero i d h = absurd (not-suc-le-zero h)
+  getD-tabulate f k (suc n) zero d h = rw (add-zero k)
+  getD-tabulate f k (suc n) (suc i) d h = getD-tabulate f (suc k) n i d (le-of-suc-le-suc h) ∙ (let e : suc k + i ≡ k + suc i = omega arith in rw e)
 
   -- two functions that give the same table are the same below its length: a rule of a table is one computed equation
   pub everywhere : (f g : ℕ → A) (n : ℕ) → tabulate f 0 n ≡ tabulate g 0 n → (i : ℕ) → i < n → f i ≡ g i
   everywhere f g n e i h =
       let z : 0 + i ≡ i = omega arith in
-      ap f (sym z) ∙ sym (at-tabulate f 0 n i (f 0) h) ∙ ap (λ (l : List A). getD l i (f 0)) e ∙ at-tabulate g 0 n i (f 0) h ∙ ap g z
+      ap f (sym z) ∙ sym (getD-tabulate f 0 n i (f 0) h) ∙ ap (λ (l : List A). getD l i (f 0)) e ∙ getD-tabulate g 0 n i (f 0) h ∙ ap g z
 
   tabulate-same : (f g : ℕ → A) (k n : ℕ) → ((i : ℕ) → k ≤ i → f i ≡ g i) → tabulate f k n ≡ tabulate g k n
   tabulate-same f g k zero h = refl

@@ -26,7 +26,7 @@ use denote.Triple.Spec.{Meets, tripleOf}
 use denote.Triple.Table.{entered, cited}
 use denote.Triple.Walked.{says, Stays, stay-dropped, goes-dropped, walkOf, ends-at}
 use Rattle.interrupt.specs.declared.interrupt.InterruptRecord.{InterruptRecord}
-use Rattle.interrupt.specs.Life.{levelTo, pulsed}
+use Rattle.interrupt.specs.Records.{lineTo, linePulsed}
 use Rattle.interrupt.proofs.interrupt.InterruptRecord as T
 use Rattle.interrupt.proofs.interrupt.InterruptRecord.Laws as T′
 use Rattle.lent.proofs.Lending.{typed, lends, on-return, meets-by}
@@ -48,10 +48,10 @@ stayed = (stay-dropped (plain (λ _. T.the-row)) yes, tt)
 module _ {M : Type 1} (𝓤 : URA M) (H : Heap 𝓤) (A : Atoms 𝓤) (at-mem : Memory → SProp 𝓤) (run : Routine → Fun 𝓤) (W : Given 𝓤 H A) (h : InterruptRecord) where
   -- the record after the line fell, and after the pulse; and the triple in which the walk ends
   abbrev low : InterruptRecord
-  low = levelTo false h
+  low = lineTo false h
 
   abbrev both : InterruptRecord
-  both = pulsed low
+  both = linePulsed low
 
   abbrev Walk : Contract 𝓤
   Walk = walkOf 𝓤 H A this.ended stayed (this.clauses 𝓤 H A at-mem run)

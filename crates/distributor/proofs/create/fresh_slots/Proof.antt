@@ -2,15 +2,14 @@
 use Prim.Native.Nat.{_-_, _≤_}
 use mathlib.Core.Path.{_≡_, ap, _∙_}
 use native.Mathlib.Omega.{arith}
-use Rattle.theory.specs.Lists.{tabulate}
 use Rattle.place.specs.Table.{capacity}
 use Rattle.slot.specs.Slots.{freshSpi}
-use Rattle.distributor.proofs.Creating.{partly, none-made, all-made, one-made}
+use Rattle.distributor.proofs.Creating.{table, none-made, all-made, one-made}
 use Rattle.distributor.proofs.create.fresh_slots.Statement.{statement}
 use Rattle.distributor.proofs.create.fresh_slots.Tie as tie
 
 abbrev Inv-loop : tie.InvT-loop
-Inv-loop slots₀ p₀ slots p = (p ≤ capacity) × (slots ≡ tabulate (partly p) 0 capacity)
+Inv-loop slots₀ p₀ slots p = (p ≤ capacity) × (slots ≡ table p)
 
 abbrev μ-loop : tie.MeasureT-loop
 μ-loop slots₀ p₀ slots p = capacity - p

@@ -27,17 +27,17 @@ add-end c = omega (arith, c .size .ensures)
 loop-holds : tie.Need-loop-holds Inv-loop μ-loop
 loop-holds c = (omega arith, omega arith, (refl, refl))
 
-of-requires : tie.Need-of-requires Inv-loop μ-loop
-of-requires c κs = tt
+nearest-requires : tie.Need-nearest-requires Inv-loop μ-loop
+nearest-requires c κs = tt
 
 index-requires : tie.Need-index-requires Inv-loop μ-loop
 index-requires c κs = tt
 
 mul-s : tie.Need-mul-s Inv-loop μ-loop
-mul-s c = omega (arith, c .index .ensures, c .before .of .ensures)
+mul-s c = omega (arith, c .index .ensures, c .before .nearest .ensures)
 
 element-copy-out-s : tie.Need-element-copy-out-s Inv-loop μ-loop
-element-copy-out-s c = omega (arith, c .index .ensures, c .before .of .ensures)
+element-copy-out-s c = omega (arith, c .index .ensures, c .before .nearest .ensures)
 
 is-deliverable-requires : tie.Need-is-deliverable-requires Inv-loop μ-loop
 is-deliverable-requires c κs = tt
@@ -55,7 +55,7 @@ list-if-requires c κs =
     let n = tableSize (a .t1 .«spi_count») in
     let t = deliverableAt (a .t1 .slots) in
     let high : l .i < 32 + n = omega (arith, il .loop-test .taken, sz .size .ensures) in
-    let at : x .index .result ≡ l .i - 32 = omega (arith, x .index .ensures, o .of .ensures, high) in
+    let at : x .index .result ≡ l .i - 32 = omega (arith, x .index .ensures, o .nearest .ensures, high) in
     let on : sw .is-deliverable .result ≡ t (l .i) = sw .is-deliverable .ensures ∙ deliverable-at (a .t1 .slots) (x .index .result) (l .i) at in
     λ h. list-room t 32 (now (a .list)) (32 + n) (turns-fit t (now (a .list)) n (st .pre)) (l .i) (l .list) (l .count) (l .inv .0) high (l .inv .2) (sym on ∙ h)
 
@@ -81,7 +81,7 @@ loop-again c =
     let n = tableSize (a .t1 .«spi_count») in
     let t = deliverableAt (a .t1 .slots) in
     let high : l .i < 32 + n = omega (arith, il .loop-test .taken, sz .size .ensures) in
-    let at : x .index .result ≡ l .i - 32 = omega (arith, x .index .ensures, o .of .ensures, high) in
+    let at : x .index .result ≡ l .i - 32 = omega (arith, x .index .ensures, o .nearest .ensures, high) in
     let on : sw .is-deliverable .result ≡ t (l .i) = sw .is-deliverable .ensures ∙ deliverable-at (a .t1 .slots) (x .index .result) (l .i) at in (
       omega arith,
       omega (arith, high),
@@ -114,7 +114,7 @@ list-deliverable-spec =
     size-requires
     add-end
     loop-holds
-    of-requires
+    nearest-requires
     index-requires
     mul-s
     element-copy-out-s

@@ -38,17 +38,17 @@ loop-holds c =
 sub-i : tie.Need-sub-i Inv-loop μ-loop
 sub-i c = omega arith
 
-of-requires : tie.Need-of-requires Inv-loop μ-loop
-of-requires c κs = tt
+nearest-requires : tie.Need-nearest-requires Inv-loop μ-loop
+nearest-requires c κs = tt
 
 index-requires : tie.Need-index-requires Inv-loop μ-loop
 index-requires c κs = tt
 
 mul-s : tie.Need-mul-s Inv-loop μ-loop
-mul-s c = omega (arith, c .index .ensures, c .before .of .ensures)
+mul-s c = omega (arith, c .index .ensures, c .before .nearest .ensures)
 
 element-copy-out-s : tie.Need-element-copy-out-s Inv-loop μ-loop
-element-copy-out-s c = omega (arith, c .index .ensures, c .before .of .ensures)
+element-copy-out-s c = omega (arith, c .index .ensures, c .before .nearest .ensures)
 
 showing-requires : tie.Need-showing-requires Inv-loop μ-loop
 showing-requires c κs = tt
@@ -76,7 +76,7 @@ loop-again c =
     let t = shownAt E n (a .bank) (a .t1 .slots) in
     let F = ap (λ (s : Span). s .first) (nw .new .ensures) in
     let low : 0 < l .i = omega (arith, il .loop-test .taken) in
-    let at : x .index .result ≡ l .i - 1 - 32 = omega (arith, x .index .ensures, o .of .ensures, l .inv .1) in
+    let at : x .index .result ≡ l .i - 1 - 32 = omega (arith, x .index .ensures, o .nearest .ensures, l .inv .1) in
     let g =
     shows E n (a .bank) (a .t1 .slots) (l .i - 1) (x .index .result) (v .showing .result) (ex .is-explicit .result)
     (omega (arith, F, il .loop-test .taken)) (omega (arith, F, il .loop-test .taken, l .inv .1)) at (ex .is-explicit .ensures) (v .showing .ensures .0) in
@@ -108,7 +108,7 @@ read-fields-spec =
     new-requires
     loop-holds
     sub-i
-    of-requires
+    nearest-requires
     index-requires
     mul-s
     element-copy-out-s

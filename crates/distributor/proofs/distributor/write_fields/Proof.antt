@@ -47,17 +47,17 @@ loop-holds c =
       rw z (refl, refl),
     )
 
-of-requires : tie.Need-of-requires Inv-loop μ-loop
-of-requires c κs = tt
+nearest-requires : tie.Need-nearest-requires Inv-loop μ-loop
+nearest-requires c κs = tt
 
 index-requires : tie.Need-index-requires Inv-loop μ-loop
 index-requires c κs = tt
 
 mul-old : tie.Need-mul-old Inv-loop μ-loop
-mul-old c = omega (arith, c .index .ensures, c .before .of .ensures)
+mul-old c = omega (arith, c .index .ensures, c .before .nearest .ensures)
 
 element-copy-out-old : tie.Need-element-copy-out-old Inv-loop μ-loop
-element-copy-out-old c = omega (arith, c .index .ensures, c .before .of .ensures)
+element-copy-out-old c = omega (arith, c .index .ensures, c .before .nearest .ensures)
 
 low-field-requires : tie.Need-low-field-requires Inv-loop μ-loop
 low-field-requires c κs = tt
@@ -66,10 +66,10 @@ write-field-requires : tie.Need-write-field-requires Inv-loop μ-loop
 write-field-requires c κs = tt
 
 mul-new : tie.Need-mul-new Inv-loop μ-loop
-mul-new c = let x = c .before .before .before .before in omega (arith, x .index .ensures, x .before .of .ensures)
+mul-new c = let x = c .before .before .before .before in omega (arith, x .index .ensures, x .before .nearest .ensures)
 
 element-set-from-new : tie.Need-element-set-from-new Inv-loop μ-loop
-element-set-from-new c = let x = c .before .before .before .before in omega (arith, x .index .ensures, x .before .of .ensures)
+element-set-from-new c = let x = c .before .before .before .before in omega (arith, x .index .ensures, x .before .nearest .ensures)
 
 list-if-requires : tie.Need-list-if-requires Inv-loop μ-loop
 list-if-requires c κs =
@@ -87,7 +87,7 @@ list-if-requires c κs =
     let t = test (a .t1) (a .bank) (a .lo) (a .m) (a .value) (a .tells) in
     let B = ap (λ (s : Span). s .end) (nw .new .ensures) in
     let high : l .i < min (a .lo + a .m) (32 + n) = omega (arith, B, il .loop-test .taken) in
-    let at : x .index .result ≡ l .i - 32 = omega (arith, x .index .ensures, o .of .ensures, high) in
+    let at : x .index .result ≡ l .i - 32 = omega (arith, x .index .ensures, o .nearest .ensures, high) in
     let on =
     on-more (a .t1) (a .bank) (a .lo) (a .m) (a .value) (a .tells) (l .i) (x .index .result) (lf .low-field .result) (l .v) (ex .is-explicit .result) (wf .write-field .result .slot) (wf .write-field .result .listed) (l .d)
     (l .inv .0) high at (ex .is-explicit .ensures) (l .inv .3) (l .inv .2) (lf .low-field .ensures) (wf .write-field .ensures .0) (wf .write-field .ensures .1) in
@@ -123,7 +123,7 @@ loop-again c =
     let t = test (a .t1) (a .bank) (a .lo) (a .m) (a .value) (a .tells) in
     let B = ap (λ (s : Span). s .end) (nw .new .ensures) in
     let high : l .i < min (a .lo + a .m) (32 + n) = omega (arith, B, il .loop-test .taken) in
-    let at : x .index .result ≡ l .i - 32 = omega (arith, x .index .ensures, o .of .ensures, high) in
+    let at : x .index .result ≡ l .i - 32 = omega (arith, x .index .ensures, o .nearest .ensures, high) in
     let on =
     on-more (a .t1) (a .bank) (a .lo) (a .m) (a .value) (a .tells) (l .i) (x .index .result) (lf .low-field .result) (l .v) (ex .is-explicit .result) (wf .write-field .result .slot) (wf .write-field .result .listed) (l .d)
     (l .inv .0) high at (ex .is-explicit .ensures) (l .inv .3) (l .inv .2) (lf .low-field .ensures) (wf .write-field .ensures .0) (wf .write-field .ensures .1) in
@@ -170,7 +170,7 @@ write-fields-spec =
     sub-from-field
     from-field-requires
     loop-holds
-    of-requires
+    nearest-requires
     index-requires
     mul-old
     element-copy-out-old

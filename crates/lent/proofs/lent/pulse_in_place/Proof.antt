@@ -27,7 +27,7 @@ use denote.Triple.Spec.{Meets, tripleOf}
 use denote.Triple.Table.{entered, cited}
 use denote.Triple.Walked.{says, Stays, stay-ref, goes-ref, walkOf, ends-at}
 use Rattle.interrupt.specs.declared.interrupt.InterruptRecord.{InterruptRecord}
-use Rattle.interrupt.specs.Life.{pulsed}
+use Rattle.interrupt.specs.Records.{linePulsed}
 use Rattle.interrupt.proofs.interrupt.InterruptRecord as T
 use Rattle.interrupt.proofs.interrupt.InterruptRecord.Laws as T′
 use Rattle.lent.proofs.Lending.{to, lent, Makes, makes, changes, on-entry, on-exit, meets-by}
@@ -55,8 +55,8 @@ module _ {M : Type 1} (𝓤 : URA M) (H : Heap 𝓤) (A : Atoms 𝓤) (at-mem : 
     abbrev passed : Method .Ghost
     passed = ((tt, tt, tt, (h, tt), (LL.vals T.the-type T′.the-laws h, tt)), tt)
 
-    made : Makes 𝓤 H A T.the-type T′.the-laws Method passed h (pulsed h)
-    made = makes 𝓤 H A T.the-type T′.the-laws W Method passed h (pulsed h) ftrue (id⊢ 𝓤 _) (lasts method.ended tt (h, tt)) (id⊢ 𝓤 _) (λ v. id⊢ 𝓤 _)
+    made : Makes 𝓤 H A T.the-type T′.the-laws Method passed h (linePulsed h)
+    made = makes 𝓤 H A T.the-type T′.the-laws W Method passed h (linePulsed h) ftrue (id⊢ 𝓤 _) (lasts method.ended tt (h, tt)) (id⊢ 𝓤 _) (λ v. id⊢ 𝓤 _)
 
     module _ (κ : Lft) (q : Share) (b o : ℕ) (γ : GName) where
       abbrev y : Walk .Ghost
@@ -70,13 +70,13 @@ module _ {M : Type 1} (𝓤 : URA M) (H : Heap 𝓤) (A : Atoms 𝓤) (at-mem : 
           alloc1 ! (λ l₀. alloc1 ! (λ l₁. alloc1 ! (λ l₂. alloc1 ! (λ l₃. alloc0 ! $ params1 ! $ pass1 ! (init ! 4 refl (tt, tt)) $ pass0 ! $
           -- [_3; …; _2; …; _1; …; room for _0; …; what is lent]
           move ! (8 ∷ 9 ∷ 10 ∷ 4 ∷ 2 ∷ 0 ∷ []) $
-          changes ! fm T.the-type T′.the-laws h (pulsed h) b o refl refl refl Method known passed made (and-then ! (load ! (from ! (stop !)) (look ! 6 refl)) (no-more !)) (λ v.
+          changes ! fm T.the-type T′.the-laws h (linePulsed h) b o refl refl refl Method known passed made (and-then ! (load ! (from ! (stop !)) (look ! 6 refl)) (no-more !)) (λ v.
           -- [what is lent; _1; _2; _3; what frees _3, _2, _1; room for _0; what frees it]
           assigns ! (of-opd ! (unit-lit !)) (from ! (stop !)) (init ! 9 refl (tt, tt)) $
           returns ! (look ! 9 refl) $ forget ! 9 refl $ forget ! 3 refl $ forget ! 4 refl $ forget ! 5 refl $
           move ! (9 ∷ 10 ∷ 3 ∷ 8 ∷ 4 ∷ 7 ∷ 5 ∷ 6 ∷ []) $ free1 ! $ free1 ! $ free1 ! $ free1 ! $ free0 ! $
-          suffices ! _ (ends-at 𝓤 H A this.ended stayed (this.clauses 𝓤 H A at-mem run) W y vunit tt (pulsed h, tt) (tt, tt)) $ says ! refl $
-          by ! (on-exit 𝓤 H A T.the-type T′.the-laws W κ q b o γ (pulsed h) ftrue (id⊢ 𝓤 _))))))))
+          suffices ! _ (ends-at 𝓤 H A this.ended stayed (this.clauses 𝓤 H A at-mem run) W y vunit tt (linePulsed h, tt) (tt, tt)) $ says ! refl $
+          by ! (on-exit 𝓤 H A T.the-type T′.the-laws W κ q b o γ (linePulsed h) ftrue (id⊢ 𝓤 _))))))))
 
 meets : {M : Type 1} (𝓤 : URA M) (H : Heap 𝓤) (A : Atoms 𝓤) → Given 𝓤 H A → (at-mem : Memory → SProp 𝓤) (run : Routine → Fun 𝓤) (𝓣 : Tables 𝓤 H) → Triple 𝓤 (𝓣 .C #pulse) (Method 𝓤 H A at-mem run)
     → Meets 𝓤 H A this.signature (WpFn 𝓤 H (𝓣 .C) (𝓣 .Λ) code.function) (this.spec 𝓤 H A at-mem run)

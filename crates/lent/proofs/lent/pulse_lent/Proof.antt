@@ -25,7 +25,7 @@ use denote.Triple.Spec.{Meets, tripleOf}
 use denote.Triple.Table.{entered, cited}
 use denote.Triple.Walked.{says, Stays, stay-dropped, goes-dropped, walkOf, ends-at}
 use Rattle.interrupt.specs.declared.interrupt.InterruptRecord.{InterruptRecord}
-use Rattle.interrupt.specs.Life.{pulsed}
+use Rattle.interrupt.specs.Records.{linePulsed}
 use Rattle.interrupt.proofs.interrupt.InterruptRecord as T
 use Rattle.interrupt.proofs.interrupt.InterruptRecord.Laws as T′
 use Rattle.lent.proofs.Lending.{typed, lends, on-return, meets-by}
@@ -57,15 +57,15 @@ module _ {M : Type 1} (𝓤 : URA M) (H : Heap 𝓤) (A : Atoms 𝓤) (at-mem : 
       -- [_4; …; _3; …; _2; …; _1; …; room for _0; …]
       assigns ! (of-opd ! (load ! (from ! (stop !)) (look ! 6 refl))) (from ! (stop !)) (init ! 4 refl (typed 𝓤 H A T.the-type T′.the-laws W h _ is)) $
       assigns ! (addr ! (from ! (stop !))) (from ! (stop !)) (init ! 0 refl (tt, tt)) $ move ! (4 ∷ []) $
-      lends ! fm T.the-type T′.the-laws T′.the-plain h (pulsed h) l₂ is
+      lends ! fm T.the-type T′.the-laws T′.the-plain h (linePulsed h) l₂ is
       (Pulse 𝓤 H A at-mem run) known (to-pulse 𝓤 H A at-mem run l₂ h) (pulse-changes 𝓤 H A at-mem run l₂ h W) (λ α γ. and-then ! (load ! (from ! (stop !)) (look ! 2 refl)) (no-more !)) (λ v unit is′.
       -- [_2; _4; …; _3; …; what frees _2; _1; …; room for _0; …]
       land ! (from ! (stop !)) (init ! 3 refl unit) $
-      assigns ! (of-opd ! (load ! (from ! (stop !)) (look ! 0 refl))) (from ! (stop !)) (init ! 8 refl (typed 𝓤 H A T.the-type T′.the-laws W (pulsed h) _ is′)) $
+      assigns ! (of-opd ! (load ! (from ! (stop !)) (look ! 0 refl))) (from ! (stop !)) (init ! 8 refl (typed 𝓤 H A T.the-type T′.the-laws W (linePulsed h) _ is′)) $
       returns ! (look ! 8 refl) $ forget ! 8 refl $ forget ! 6 refl $ forget ! 0 refl $ forget ! 3 refl $ forget ! 1 refl $
       move ! (8 ∷ 9 ∷ 6 ∷ 7 ∷ 0 ∷ 5 ∷ 3 ∷ 4 ∷ 1 ∷ 2 ∷ []) $ free1 ! $ free1 ! $ free1 ! $ free1 ! $ free1 ! $ free0 ! $
-      suffices ! _ (ends-at 𝓤 H A this.ended stayed (this.clauses 𝓤 H A at-mem run) W y (LL.val T.the-type T′.the-laws (pulsed h)) (pulsed h) (tt, tt) (tt, tt)) $ says ! refl $
-      by ! (on-return 𝓤 H A T.the-type T′.the-laws W T′.the-plain (pulsed h) (fsep ftrue ftrue) (emp∗ 𝓤 (emp 𝓤)) is′)))))))
+      suffices ! _ (ends-at 𝓤 H A this.ended stayed (this.clauses 𝓤 H A at-mem run) W y (LL.val T.the-type T′.the-laws (linePulsed h)) (linePulsed h) (tt, tt) (tt, tt)) $ says ! refl $
+      by ! (on-return 𝓤 H A T.the-type T′.the-laws W T′.the-plain (linePulsed h) (fsep ftrue ftrue) (emp∗ 𝓤 (emp 𝓤)) is′)))))))
 
 meets : {M : Type 1} (𝓤 : URA M) (H : Heap 𝓤) (A : Atoms 𝓤) → Given 𝓤 H A → (at-mem : Memory → SProp 𝓤) (run : Routine → Fun 𝓤) (𝓣 : Tables 𝓤 H) → Triple 𝓤 (𝓣 .C #pulse-in-place) (Pulse 𝓤 H A at-mem run)
     → Meets 𝓤 H A this.signature (WpFn 𝓤 H (𝓣 .C) (𝓣 .Λ) code.function) (this.spec 𝓤 H A at-mem run)

@@ -31,7 +31,7 @@ use denote.Triple.Spec.{Meets, tripleOf}
 use denote.Triple.Table.{entered, cited}
 use denote.Triple.Walked.{says, Stays, stay-ref, stay-dropped, goes-ref, goes-dropped, walkOf, ends-at}
 use Rattle.interrupt.specs.declared.interrupt.InterruptRecord.{InterruptRecord}
-use Rattle.interrupt.specs.Life.{levelTo}
+use Rattle.interrupt.specs.Records.{lineTo}
 use Rattle.interrupt.proofs.interrupt.InterruptRecord as T
 use Rattle.interrupt.proofs.interrupt.InterruptRecord.Laws as T′
 use Rattle.lent.proofs.Lending.{to, lent, Flag, flag, Makes, makes, changes, on-entry, on-exit, meets-by}
@@ -59,8 +59,8 @@ module _ {M : Type 1} (𝓤 : URA M) (H : Heap 𝓤) (A : Atoms 𝓤) (at-mem : 
     abbrev passed : Method .Ghost
     passed = ((tt, tt, tt, (h, (on, tt)), (LL.vals T.the-type T′.the-laws h, (vbool on ∷ [], tt))), tt)
 
-    made : Makes 𝓤 H A T.the-type T′.the-laws Method passed h (levelTo on h)
-    made = makes 𝓤 H A T.the-type T′.the-laws W Method passed h (levelTo on h) (Flag on) (flag 𝓤 H A W on) (lasts method.ended tt (h, (on, tt))) (id⊢ 𝓤 _) (λ v. id⊢ 𝓤 _)
+    made : Makes 𝓤 H A T.the-type T′.the-laws Method passed h (lineTo on h)
+    made = makes 𝓤 H A T.the-type T′.the-laws W Method passed h (lineTo on h) (Flag on) (flag 𝓤 H A W on) (lasts method.ended tt (h, (on, tt))) (id⊢ 𝓤 _) (λ v. id⊢ 𝓤 _)
 
     module _ (κ : Lft) (q : Share) (b o : ℕ) (γ : GName) where
       abbrev y : Walk .Ghost
@@ -74,14 +74,14 @@ module _ {M : Type 1} (𝓤 : URA M) (H : Heap 𝓤) (A : Atoms 𝓤) (at-mem : 
           alloc1 ! (λ l₀. alloc1 ! (λ l₁. alloc1 ! (λ l₂. alloc1 ! (λ l₃. alloc1 ! (λ l₄. alloc0 ! $ params1 ! $ pass1 ! (init ! 6 refl (tt, tt)) $ pass1 ! (init ! 4 refl (tt, tt)) $ pass0 ! $
           -- [_4; …; _3; …; _2; …; _1; …; room for _0; …; what is lent]
           move ! (10 ∷ 11 ∷ 12 ∷ 6 ∷ 2 ∷ 0 ∷ []) $
-          changes ! fm T.the-type T′.the-laws h (levelTo on h) b o refl refl refl Method known passed made
+          changes ! fm T.the-type T′.the-laws h (lineTo on h) b o refl refl refl Method known passed made
           (and-then ! (load ! (from ! (stop !)) (look ! 6 refl)) (and-then ! (load ! (from ! (stop !)) (look ! 10 refl)) (no-more !))) (λ v.
           -- [what is lent; _1; _3; _4; what frees _4, _3; _2; what frees _2, _1; room for _0; what frees it]
           assigns ! (of-opd ! (unit-lit !)) (from ! (stop !)) (init ! 11 refl (tt, tt)) $
           returns ! (look ! 11 refl) $ forget ! 11 refl $ forget ! 3 refl $ forget ! 4 refl $ forget ! 5 refl $ forget ! 8 refl $
           move ! (11 ∷ 12 ∷ 3 ∷ 10 ∷ 8 ∷ 9 ∷ 4 ∷ 7 ∷ 5 ∷ 6 ∷ []) $ free1 ! $ free1 ! $ free1 ! $ free1 ! $ free1 ! $ free0 ! $
-          suffices ! _ (ends-at 𝓤 H A this.ended stayed (this.clauses 𝓤 H A at-mem run) W y vunit tt (levelTo on h, (tt, tt)) (tt, (tt, tt))) $ says ! refl $
-          by ! (on-exit 𝓤 H A T.the-type T′.the-laws W κ q b o γ (levelTo on h) (fsep ftrue ftrue) (emp∗ 𝓤 (emp 𝓤))))))))))
+          suffices ! _ (ends-at 𝓤 H A this.ended stayed (this.clauses 𝓤 H A at-mem run) W y vunit tt (lineTo on h, (tt, tt)) (tt, (tt, tt))) $ says ! refl $
+          by ! (on-exit 𝓤 H A T.the-type T′.the-laws W κ q b o γ (lineTo on h) (fsep ftrue ftrue) (emp∗ 𝓤 (emp 𝓤))))))))))
 
 meets : {M : Type 1} (𝓤 : URA M) (H : Heap 𝓤) (A : Atoms 𝓤) → Given 𝓤 H A → (at-mem : Memory → SProp 𝓤) (run : Routine → Fun 𝓤) (𝓣 : Tables 𝓤 H) → Triple 𝓤 (𝓣 .C #set-level) (Method 𝓤 H A at-mem run)
     → Meets 𝓤 H A this.signature (WpFn 𝓤 H (𝓣 .C) (𝓣 .Λ) code.function) (this.spec 𝓤 H A at-mem run)

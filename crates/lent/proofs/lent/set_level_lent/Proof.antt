@@ -29,7 +29,7 @@ use denote.Triple.Spec.{Meets, tripleOf}
 use denote.Triple.Table.{entered, cited}
 use denote.Triple.Walked.{says, Stays, stay-dropped, goes-dropped, walkOf, ends-at}
 use Rattle.interrupt.specs.declared.interrupt.InterruptRecord.{InterruptRecord}
-use Rattle.interrupt.specs.Life.{levelTo}
+use Rattle.interrupt.specs.Records.{lineTo}
 use Rattle.interrupt.proofs.interrupt.InterruptRecord as T
 use Rattle.interrupt.proofs.interrupt.InterruptRecord.Laws as T′
 use Rattle.lent.proofs.Lending.{typed, lends, on-return, meets-by}
@@ -62,15 +62,15 @@ module _ {M : Type 1} (𝓤 : URA M) (H : Heap 𝓤) (A : Atoms 𝓤) (at-mem : 
       -- [_5; …; _4; …; _3; …; _2; …; _1; …; room for _0; …]
       assigns ! (of-opd ! (load ! (from ! (stop !)) (look ! 8 refl))) (from ! (stop !)) (init ! 4 refl (typed 𝓤 H A T.the-type T′.the-laws W h _ is)) $
       assigns ! (addr ! (from ! (stop !))) (from ! (stop !)) (init ! 0 refl (tt, tt)) $ move ! (4 ∷ []) $
-      lends ! fm T.the-type T′.the-laws T′.the-plain h (levelTo on h) l₃ is (Level 𝓤 H A at-mem run) known (to-level 𝓤 H A at-mem run l₃ h on) (level-changes 𝓤 H A at-mem run l₃ h W on)
+      lends ! fm T.the-type T′.the-laws T′.the-plain h (lineTo on h) l₃ is (Level 𝓤 H A at-mem run) known (to-level 𝓤 H A at-mem run l₃ h on) (level-changes 𝓤 H A at-mem run l₃ h W on)
       (λ α γ. and-then ! (load ! (from ! (stop !)) (look ! 2 refl)) (and-then ! (load ! (from ! (stop !)) (look ! 7 refl)) (no-more !))) (λ v unit is′.
       -- [_3; _5; …; _4; …; what frees _3; _2; …; _1; …; room for _0; …]
       land ! (from ! (stop !)) (init ! 3 refl unit) $
-      assigns ! (of-opd ! (load ! (from ! (stop !)) (look ! 0 refl))) (from ! (stop !)) (init ! 10 refl (typed 𝓤 H A T.the-type T′.the-laws W (levelTo on h) _ is′)) $
+      assigns ! (of-opd ! (load ! (from ! (stop !)) (look ! 0 refl))) (from ! (stop !)) (init ! 10 refl (typed 𝓤 H A T.the-type T′.the-laws W (lineTo on h) _ is′)) $
       returns ! (look ! 10 refl) $ forget ! 10 refl $ forget ! 8 refl $ forget ! 6 refl $ forget ! 0 refl $ forget ! 3 refl $ forget ! 1 refl $
       move ! (10 ∷ 11 ∷ 8 ∷ 9 ∷ 6 ∷ 7 ∷ 0 ∷ 5 ∷ 3 ∷ 4 ∷ 1 ∷ 2 ∷ []) $ free1 ! $ free1 ! $ free1 ! $ free1 ! $ free1 ! $ free1 ! $ free0 ! $
-      suffices ! _ (ends-at 𝓤 H A this.ended stayed (this.clauses 𝓤 H A at-mem run) W y (LL.val T.the-type T′.the-laws (levelTo on h)) (levelTo on h) (tt, (tt, tt)) (tt, (tt, tt))) $ says ! refl $
-      by ! (on-return 𝓤 H A T.the-type T′.the-laws W T′.the-plain (levelTo on h) (fsep ftrue (fsep ftrue ftrue)) (via 𝓤 _ (emp∗ 𝓤 (emp 𝓤)) (monoR 𝓤 (emp 𝓤) (emp∗ 𝓤 (emp 𝓤)))) is′))))))))
+      suffices ! _ (ends-at 𝓤 H A this.ended stayed (this.clauses 𝓤 H A at-mem run) W y (LL.val T.the-type T′.the-laws (lineTo on h)) (lineTo on h) (tt, (tt, tt)) (tt, (tt, tt))) $ says ! refl $
+      by ! (on-return 𝓤 H A T.the-type T′.the-laws W T′.the-plain (lineTo on h) (fsep ftrue (fsep ftrue ftrue)) (via 𝓤 _ (emp∗ 𝓤 (emp 𝓤)) (monoR 𝓤 (emp 𝓤) (emp∗ 𝓤 (emp 𝓤)))) is′))))))))
 
 meets : {M : Type 1} (𝓤 : URA M) (H : Heap 𝓤) (A : Atoms 𝓤) → Given 𝓤 H A → (at-mem : Memory → SProp 𝓤) (run : Routine → Fun 𝓤) (𝓣 : Tables 𝓤 H) → Triple 𝓤 (𝓣 .C #set-level-in-place) (Level 𝓤 H A at-mem run)
     → Meets 𝓤 H A this.signature (WpFn 𝓤 H (𝓣 .C) (𝓣 .Λ) code.function) (this.spec 𝓤 H A at-mem run)

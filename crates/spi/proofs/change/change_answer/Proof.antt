@@ -5,11 +5,17 @@ use Rattle.spi.proofs.change.change_answer.Tie as tie
 enum-told : tie.Need-enum-told
 enum-told c = search needs
 
+ownership-requires : tie.Need-ownership-requires
+ownership-requires c κs = search needs
+
 claim-answer-requires : tie.Need-claim-answer-requires
 claim-answer-requires c κs = search needs
 
 enum-told-2 : tie.Need-enum-told-2
 enum-told-2 c = search needs
+
+ownership-requires-2 : tie.Need-ownership-requires-2
+ownership-requires-2 c κs = search needs
 
 claim-answer-requires-2 : tie.Need-claim-answer-requires-2
 claim-answer-requires-2 c κs = search needs
@@ -30,10 +36,10 @@ enum-told-5 : tie.Need-enum-told-5
 enum-told-5 c = search needs
 
 returns : tie.Need-returns
-returns c = rw (c .before .enum-told .given .1) (c .claim-answer .ensures)
+returns c = rw (c .before .before .enum-told .given .1, ← c .before .ownership .ensures) (c .claim-answer .ensures)
 
 returns-2 : tie.Need-returns-2
-returns-2 c = rw (c .before .enum-told2 .given .1) (c .claim-answer2 .ensures)
+returns-2 c = rw (c .before .before .enum-told2 .given .1, ← c .before .ownership2 .ensures) (c .claim-answer2 .ensures)
 
 returns-3 : tie.Need-returns-3
 returns-3 c = rw (c .enum-told3 .given .1)
@@ -52,8 +58,10 @@ change-answer-spec =
     tie.close
     (tie.spec
     enum-told
+    ownership-requires
     claim-answer-requires
     enum-told-2
+    ownership-requires-2
     claim-answer-requires-2
     enum-told-3
     enum-told-4

@@ -81,14 +81,14 @@ deliverable-requires c κs = search needs
 enum-told-12 : tie.Need-enum-told-12
 enum-told-12 c = search needs
 
-is-claimed-requires : tie.Need-is-claimed-requires
-is-claimed-requires c κs = search needs
+ownership-requires : tie.Need-ownership-requires
+ownership-requires c κs = search needs
 
 enum-told-13 : tie.Need-enum-told-13
 enum-told-13 c = search needs
 
-has-fixed-route-requires : tie.Need-has-fixed-route-requires
-has-fixed-route-requires c κs = search needs
+ownership-requires-2 : tie.Need-ownership-requires-2
+ownership-requires-2 c κs = search needs
 
 returns : tie.Need-returns
 returns c = rw (c .before .before .enum-told .given .1, c .raw .ensures, c .before .intid .ensures, c .before .before .before .before .interrupt .ensures)
@@ -124,10 +124,10 @@ returns-11 : tie.Need-returns-11
 returns-11 c = rw (c .before .enum-told11 .given .1, c .deliverable .ensures, c .before .before .before .interrupt .ensures)
 
 returns-12 : tie.Need-returns-12
-returns-12 c = rw (c .before .enum-told12 .given .1, c .is-claimed .ensures)
+returns-12 c = rw (c .before .enum-told12 .given .1, c .ownership .ensures)
 
 returns-13 : tie.Need-returns-13
-returns-13 c = rw (c .before .enum-told13 .given .1, c .has-fixed-route .ensures)
+returns-13 c = rw (c .before .enum-told13 .given .1, c .ownership2 .ensures)
 
 pub value-of-spec : {M : Type 1} → statement M
 value-of-spec =
@@ -159,9 +159,9 @@ value-of-spec =
     enum-told-11
     deliverable-requires
     enum-told-12
-    is-claimed-requires
+    ownership-requires
     enum-told-13
-    has-fixed-route-requires
+    ownership-requires-2
     returns
     returns-2
     returns-3

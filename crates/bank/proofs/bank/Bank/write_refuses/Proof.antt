@@ -9,7 +9,7 @@ acts-requires : tie.Need-acts-requires
 acts-requires c κs = search needs
 
 returns : tie.Need-returns
-returns c = cc
+returns c = rw (c .acts .ensures, c .before .ignores-beyond .ensures)
 
 pub write-refuses-spec : {M : Type 1} → statement M
 write-refuses-spec = tie.close (tie.spec ignores-beyond-requires acts-requires returns)

@@ -1,7 +1,7 @@
 use mathlib.Core.Path.{refl, ap, _∙_}
 use native.Mathlib.Omega.{arith}
-use Rattle.identifiers.specs.declared.types.Priority.{Priority}
-use Rattle.bank.specs.Banks.{routed, edgeField}
+use Rattle.attributes.specs.declared.attributes.Priority.{Priority}
+use Rattle.bank.specs.Banks.{routeBits, edgeField}
 use Rattle.bank.specs.FieldLaws.{edge-fits}
 use borrow.Author.Needs.{needs}
 use Rattle.bank.proofs.bank.Field.of.Statement.{statement}
@@ -50,7 +50,7 @@ returns-3 : tie.Need-returns-3
 returns-3 c = rw (c .before .before .enum-told3 .given .1) (c .edge-value .ensures ∙ ap edgeField (c .before .trigger .ensures), rw (c .edge-value .ensures) (edge-fits (c .before .trigger .result)))
 
 returns-4 : tie.Need-returns-4
-returns-4 c = rw (c .before .before .enum-told4 .given .1) (c .route-value .ensures ∙ ap routed (c .before .route .ensures), omega arith)
+returns-4 c = rw (c .before .before .enum-told4 .given .1) (c .route-value .ensures ∙ ap routeBits (c .before .route .ensures), omega arith)
 
 pub of-spec : {M : Type 1} → statement M
 of-spec =

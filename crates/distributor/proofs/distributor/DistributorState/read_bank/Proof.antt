@@ -2,11 +2,10 @@
 use Prim.Native.Nat.{ℕ}
 use mathlib.Core.Path.{_≡_, ap, _∙_}
 use mathlib.Core.List.{[], _∷_}
-use Rattle.identifiers.specs.Answer.{done}
+use Rattle.identifiers.specs.Answer.{done, unless}
 use Rattle.place.specs.Table.{tableSize}
 use Rattle.controller.specs.Ownership.{explicit}
 use Rattle.bank.specs.Banks.{firstOf, toldBeyond}
-use Rattle.registers.specs.Answers.{unlessBeyond}
 use Rattle.slot.specs.BankRule.{bankValue, readBeyond}
 use Rattle.model.specs.Calls.{plain}
 use Rattle.distributor.proofs.Replying.{unless-beyond}
@@ -41,7 +40,7 @@ returns c =
     let l = readBeyond E n (a .bank) (a .lo) (a .m) in
     let e : toldBeyond (rb .read-beyond .result) ≡ firstOf l = rb .read-beyond .ensures ∙ (rw (ex .is-explicit .ensures, sz .size .ensures)) in
     ap plain
-    (c .read-answer .ensures ∙ ap (λ (v : ℕ). unlessBeyond (rb .read-beyond .result) (done (v ∷ []))) (rf .read-fields .ensures)
+    (c .read-answer .ensures ∙ ap (λ (v : ℕ). unless (toldBeyond (rb .read-beyond .result)) (done (v ∷ []))) (rf .read-fields .ensures)
     ∙ unless-beyond (rb .read-beyond .result) l (done (bankValue E n (a .bank) (a .lo) (a .m) (a .self .slots) ∷ [])) e)
 
 pub read-bank-spec : {M : Type 1} → statement M

@@ -1,14 +1,18 @@
 use borrow.Author.Needs.{needs}
-use Rattle.interrupt.specs.Life.{completed}
 use Rattle.interrupt.proofs.interrupt.InterruptRecord.complete.Statement.{statement}
 use Rattle.interrupt.proofs.interrupt.InterruptRecord.complete.Tie as tie
 
-level-high-requires : tie.Need-level-high-requires
-level-high-requires c κs = search needs
+is-level-requires : tie.Need-is-level-requires
+is-level-requires c κs = search needs
+
+complete-requires : tie.Need-complete-requires
+complete-requires c κs = search needs
+
+with-life-requires : tie.Need-with-life-requires
+with-life-requires c κs = search needs
 
 returns : tie.Need-returns
-unfolding completed
-returns c = cc
+returns c = rw (c .with-life .ensures, c .before .complete .ensures, c .before .before .is-level .ensures)
 
 pub complete-spec : {M : Type 1} → statement M
-complete-spec = tie.close (tie.spec level-high-requires returns)
+complete-spec = tie.close (tie.spec is-level-requires complete-requires with-life-requires returns)

@@ -1,4 +1,4 @@
-use Rattle.interrupt.specs.Life.{maskIn}
+use Rattle.interrupt.specs.Records.{maskIn}
 use Rattle.interrupt.proofs.interrupt.InterruptRecord.cpu_target_mask.Statement.{statement}
 use Rattle.interrupt.proofs.interrupt.InterruptRecord.cpu_target_mask.Tie as tie
 

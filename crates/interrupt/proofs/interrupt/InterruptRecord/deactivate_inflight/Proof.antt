@@ -1,16 +1,21 @@
 use borrow.Author.Needs.{needs}
-use Rattle.interrupt.specs.Life.{deactivated, outOfFlight}
 use Rattle.interrupt.proofs.interrupt.InterruptRecord.deactivate_inflight.Statement.{
   statement,
 }
 use Rattle.interrupt.proofs.interrupt.InterruptRecord.deactivate_inflight.Tie as tie
 
-level-high-requires : tie.Need-level-high-requires
-level-high-requires c κs = search needs
+is-level-requires : tie.Need-is-level-requires
+is-level-requires c κs = search needs
+
+deactivate-inflight-requires : tie.Need-deactivate-inflight-requires
+deactivate-inflight-requires c κs = search needs
+
+with-life-requires : tie.Need-with-life-requires
+with-life-requires c κs = search needs
 
 returns : tie.Need-returns
-unfolding deactivated outOfFlight
-returns c = cc
+returns c = rw (c .with-life .ensures, c .before .deactivate-inflight .ensures, c .before .before .is-level .ensures)
 
 pub deactivate-inflight-spec : {M : Type 1} → statement M
-deactivate-inflight-spec = tie.close (tie.spec level-high-requires returns)
+deactivate-inflight-spec =
+    tie.close (tie.spec is-level-requires deactivate-inflight-requires with-life-requires returns)

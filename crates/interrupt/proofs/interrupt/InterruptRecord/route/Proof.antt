@@ -1,4 +1,4 @@
-use Rattle.interrupt.specs.Life.{routeIn}
+use Rattle.interrupt.specs.Records.{routeIn}
 use Rattle.interrupt.proofs.interrupt.InterruptRecord.route.Statement.{statement}
 use Rattle.interrupt.proofs.interrupt.InterruptRecord.route.Tie as tie
 

@@ -1,5 +1,5 @@
 use borrow.Author.Needs.{needs}
-use Rattle.interrupt.specs.Life.{maskTo, unrouted}
+use Rattle.interrupt.specs.Records.{maskTo, unrouted}
 use Rattle.interrupt.proofs.interrupt.InterruptRecord.set_cpu_target_mask.Statement.{
   statement,
 }

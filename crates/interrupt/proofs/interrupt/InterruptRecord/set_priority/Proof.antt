@@ -1,5 +1,5 @@
 use borrow.Author.Needs.{needs}
-use Rattle.interrupt.specs.Life.{priorityTo}
+use Rattle.interrupt.specs.Records.{priorityTo}
 use Rattle.interrupt.proofs.interrupt.InterruptRecord.set_priority.Statement.{statement}
 use Rattle.interrupt.proofs.interrupt.InterruptRecord.set_priority.Tie as tie
 

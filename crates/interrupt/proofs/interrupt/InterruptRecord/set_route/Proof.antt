@@ -1,5 +1,5 @@
 use borrow.Author.Needs.{needs}
-use Rattle.interrupt.specs.Life.{routeTo}
+use Rattle.interrupt.specs.Records.{routeTo}
 use Rattle.interrupt.proofs.interrupt.InterruptRecord.set_route.Statement.{statement}
 use Rattle.interrupt.proofs.interrupt.InterruptRecord.set_route.Tie as tie
 

@@ -1,5 +1,4 @@
 use borrow.Author.Needs.{needs}
-use Rattle.interrupt.specs.Life.{stateTo}
 use Rattle.interrupt.proofs.interrupt.InterruptRecord.set_state.Statement.{statement}
 use Rattle.interrupt.proofs.interrupt.InterruptRecord.set_state.Tie as tie
 
@@ -9,9 +8,16 @@ is-pending-requires c κs = search needs
 is-active-requires : tie.Need-is-active-requires
 is-active-requires c κs = search needs
 
+set-state-requires : tie.Need-set-state-requires
+set-state-requires c κs = search needs
+
+with-life-requires : tie.Need-with-life-requires
+with-life-requires c κs = search needs
+
 returns : tie.Need-returns
-unfolding stateTo
-returns c = cc
+returns c = rw (c .with-life .ensures, c .before .set-state .ensures, c .before .before .is-active .ensures, c .before .before .before .is-pending .ensures)
 
 pub set-state-spec : {M : Type 1} → statement M
-set-state-spec = tie.close (tie.spec is-pending-requires is-active-requires returns)
+set-state-spec =
+    tie.close
+    (tie.spec is-pending-requires is-active-requires set-state-requires with-life-requires returns)

@@ -1,5 +1,5 @@
 use borrow.Author.Needs.{needs}
-use Rattle.interrupt.specs.Life.{triggerTo}
+use Rattle.interrupt.specs.Records.{triggerTo}
 use Rattle.interrupt.proofs.interrupt.InterruptRecord.set_trigger.Statement.{statement}
 use Rattle.interrupt.proofs.interrupt.InterruptRecord.set_trigger.Tie as tie
 

@@ -1,5 +1,5 @@
 use borrow.Author.Needs.{needs}
-use Rattle.interrupt.specs.Life.{stateIn}
+use Rattle.interrupt.specs.Records.{stateIn}
 use Rattle.interrupt.proofs.interrupt.InterruptRecord.state.Statement.{statement}
 use Rattle.interrupt.proofs.interrupt.InterruptRecord.state.Tie as tie
 
@@ -8,7 +8,7 @@ of-requires c κs = search needs
 
 returns : tie.Need-returns
 unfolding stateIn
-returns c = cc
+returns c = rw (c .of .ensures)
 
 pub state-spec : {M : Type 1} → statement M
 state-spec = tie.close (tie.spec of-requires returns)

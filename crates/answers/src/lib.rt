@@ -1,0 +1,2 @@
+// What the guest is answered.
+pub mod answer;

@@ -1,0 +1,4 @@
+pub mod Affinity
+pub mod States
+pub mod AffinityLaws
+pub mod StateLaws

@@ -1,0 +1,2 @@
+// What an interrupt has besides its identifier.
+pub mod attributes;

@@ -1,0 +1,3 @@
+pub mod Decoding
+pub mod Bounds
+pub mod WidthLaws

@@ -1,0 +1,88 @@
+use borrow.Author.Needs.{needs}
+use Rattle.effect.proofs.effect.effect_of.Statement.{statement}
+use Rattle.effect.proofs.effect.effect_of.Tie as tie
+
+enum-known-bank : tie.Need-enum-known-bank
+enum-known-bank c = search needs
+
+flag-to-requires : tie.Need-flag-to-requires
+flag-to-requires c κs = search needs
+
+enum-known-bank-2 : tie.Need-enum-known-bank-2
+enum-known-bank-2 c = search needs
+
+flag-to-requires-2 : tie.Need-flag-to-requires-2
+flag-to-requires-2 c κs = search needs
+
+enum-known-bank-3 : tie.Need-enum-known-bank-3
+enum-known-bank-3 c = search needs
+
+enum-told : tie.Need-enum-told
+enum-told c = search needs
+
+enum-told-2 : tie.Need-enum-told-2
+enum-told-2 c = search needs
+
+cast-new : tie.Need-cast-new
+cast-new c = search needs
+
+new-requires : tie.Need-new-requires
+new-requires c κs = search needs
+
+enum-told-3 : tie.Need-enum-told-3
+enum-told-3 c = search needs
+
+trigger-in-requires : tie.Need-trigger-in-requires
+trigger-in-requires c κs = search needs
+
+enum-told-4 : tie.Need-enum-told-4
+enum-told-4 c = search needs
+
+from-mpidr-requires : tie.Need-from-mpidr-requires
+from-mpidr-requires c κs = search needs
+
+returns : tie.Need-returns
+returns c = rw (c .before .before .bank .given .1, c .flag-to .ensures)
+
+returns-2 : tie.Need-returns-2
+returns-2 c = rw (c .before .before .bank2 .given .1, c .flag-to2 .ensures)
+
+returns-3 : tie.Need-returns-3
+returns-3 c = search needs
+
+returns-4 : tie.Need-returns-4
+returns-4 c = rw (c .before .before .before .before .bank3 .given .1, c .before .enum-told2 .given .1, c .new .ensures)
+
+returns-5 : tie.Need-returns-5
+returns-5 c = rw (c .before .before .before .before .bank3 .given .1, c .before .enum-told3 .given .1, c .trigger-in .ensures)
+
+returns-6 : tie.Need-returns-6
+returns-6 c = search needs
+
+returns-7 : tie.Need-returns-7
+returns-7 c = rw (c .before .before .before .before .before .bank3 .given .1, c .before .before .enum-told4 .given .1, c .before .if1 .left, c .from-mpidr .ensures)
+
+pub effect-of-spec : {M : Type 1} → statement M
+effect-of-spec =
+    tie.close
+    (tie.spec
+    enum-known-bank
+    flag-to-requires
+    enum-known-bank-2
+    flag-to-requires-2
+    enum-known-bank-3
+    enum-told
+    enum-told-2
+    cast-new
+    new-requires
+    enum-told-3
+    trigger-in-requires
+    enum-told-4
+    from-mpidr-requires
+    returns
+    returns-2
+    returns-3
+    returns-4
+    returns-5
+    returns-6
+    returns-7)

@@ -1,0 +1,2 @@
+// What a written field does to one SPI: a row for each bank.
+pub mod effect;

@@ -1,0 +1,2 @@
+// The life of one interrupt: its six flags, and what happens to them.
+pub mod life;
