@@ -3,6 +3,7 @@
 use attributes::attributes::TriggerMode;
 use interrupt::interrupt::InterruptRecord;
 use interrupt::interrupt::Route;
+use place::place::is_beyond;
 ghost use mathlib.Core.Path.{_≡_};
 ghost use mathlib.Core.Bool.{_&&_};
 ghost use Prim.Native.Nat.{_+_, _-_, _*_, _/_, _%_, _^_, _<_};
@@ -54,15 +55,8 @@ pub enum Beyond {
     At(u32),
 }
 
-// With explicit claims, an INTID that could be an SPI's and is not in the table.
-fn is_beyond(explicit: bool, n: u32, i: u64) -> bool
-    ensures { λ r. ⌜ r ≡ beyondTable explicit n i ⌝ }
-{
-    explicit & ((32 + n as u64 <= i) & (i < 1020))
-}
-
 // The lowest of the m INTIDs from lo on over which a write of the value is refused.
-pub fn first_beyond(explicit: bool, n: u32, bank: Bank, value: u64, lo: u32, m: u32) -> Beyond
+pub fn write_beyond(explicit: bool, n: u32, bank: Bank, value: u64, lo: u32, m: u32) -> Beyond
     ensures { λ r. ⌜ toldBeyond r ≡ firstOf (passing (refusedOver explicit n bank value lo) lo m) ⌝ }
 {
     let mut v = value;
@@ -83,7 +77,7 @@ pub fn read_beyond(explicit: bool, n: u32, bank: Bank, lo: u32, m: u32) -> Beyon
     ensures { λ r. ⌜ toldBeyond r ≡ firstOf (passing (λ i. readRefuses bank && beyondTable explicit n i) lo m) ⌝ }
 {
     if bank.read_refuses() {
-        first_beyond(explicit, n, bank, 0, lo, m)
+        write_beyond(explicit, n, bank, 0, lo, m)
     } else {
         Beyond::Nothing
     }

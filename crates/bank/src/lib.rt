@@ -1,2 +1,2 @@
-// The banks of registers: what each shows of a record, what its fields do, and what is refused beyond the table.
+// The banks of registers: what each shows of a record, which written fields act, whether a write lists, and what is refused beyond the table.
 pub mod bank;

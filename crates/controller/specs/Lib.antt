@@ -1,3 +1,3 @@
-pub mod Ownership
+pub mod Modes
 pub mod Identity
 pub mod IdentityLaws

@@ -1,6 +1,6 @@
 // The settings of a Distributor, fixed when it is made.
 ghost use mathlib.Core.Path.{_≡_};
-ghost use Rattle.controller.specs.Ownership.{explicit};
+ghost use Rattle.controller.specs.Modes.{explicit};
 
 // Which SPIs count as the guest's.
 pub enum GicV3SpiOwnership {

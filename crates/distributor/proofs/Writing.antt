@@ -14,7 +14,7 @@ use Rattle.theory.specs.ListLaws.{passing-inside}
 use Rattle.theory.specs.MapAtLaws.{mapAt-edit, mapAt-same, mapAt-still, getD-mapAt}
 use Rattle.identifiers.specs.Answer.{within}
 use Rattle.place.specs.Table.{inTable, tableSize}
-use Rattle.controller.specs.Ownership.{explicit}
+use Rattle.controller.specs.Modes.{explicit}
 use Rattle.bank.specs.declared.bank.Bank.{Bank}
 use Rattle.bank.specs.Banks.{bitsOf, field}
 use Rattle.slot.specs.declared.slot.Slot.{Slot}

@@ -8,8 +8,8 @@ use answers::answer::WriteAnswer;
 use answers::answer::read_answer;
 use answers::answer::write_answer;
 use bank::bank::Bank;
-use bank::bank::first_beyond;
 use bank::bank::read_beyond;
+use bank::bank::write_beyond;
 use controller::identity::IIDR;
 use controller::identity::component_id;
 use controller::identity::ctlr;
@@ -76,7 +76,7 @@ impl DistributorState {
         requires { ⌜ (lo < 0x10000) × (m ≤ 64) × (tableSize (self .«spi_count») ≤ length (now list)) ⌝ }
         ensures { λ r. ⌜ ResultOfWrite self (Access.To (Register.Fields bank lo m)) value (now (list .entry)) r (now (list .exit)) ⌝ }
     {
-        let beyond = first_beyond(self.is_explicit(), self.size(), bank, value, lo, m);
+        let beyond = write_beyond(self.is_explicit(), self.size(), bank, value, lo, m);
         let w = write_fields(self, bank, lo, m, value, beyond.lists(), list);
         let state = w.state;
         Wrote {

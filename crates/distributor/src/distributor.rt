@@ -13,7 +13,7 @@ ghost use lib.ListN.{length, set};
 ghost use Rattle.theory.specs.Lists.{mapAt, passing};
 ghost use Rattle.place.specs.Table.{tableSize};
 ghost use Rattle.bank.specs.Banks.{bitsOf};
-ghost use Rattle.controller.specs.Ownership.{explicit};
+ghost use Rattle.controller.specs.Modes.{explicit};
 ghost use Rattle.slot.specs.BankRule.{bankValue, bankSlot, candidate};
 ghost use Rattle.model.specs.Calls.{deliverableAt};
 ghost use Rattle.distributor.specs.Loops.{withSlots, LaidOut};

@@ -59,7 +59,7 @@ fn effect_of(fixed_route: bool, bank: Bank, field: u64) -> Effect
     }
 }
 
-// A field touches an owned SPI, if it acts.
+// What a written field does to an SPI: nothing unless the field acts and the SPI is owned.
 pub fn written(explicit: bool, ownership: Ownership, bank: Bank, field: u64) -> FieldEffect
     ensures { λ r. ⌜ r ≡ written explicit ownership bank field ⌝ }
 {

@@ -12,7 +12,7 @@ use Rattle.theory.specs.MapAtLaws.{relates-mapAt}
 use Rattle.identifiers.specs.Answer.{done}
 use Rattle.interrupt.specs.Records.{fresh, deliverableIn, withLife, linePulsed, routeTo}
 use Rattle.operation.specs.declared.operation.Operation.the-variants.{SetEnabled, Pulse}
-use Rattle.controller.specs.Ownership.{explicit}
+use Rattle.controller.specs.Modes.{explicit}
 use Rattle.place.specs.Table.{inTable}
 use Rattle.ownership.specs.Owned.{owned}
 use Rattle.slot.specs.declared.slot.Slot.{Slot}

@@ -1,3 +1,3 @@
-// Interrupt identifiers, affinity, priority, states, and the refusals: what a record stands on.
+// Identifiers, their makers, and the refusals.
 pub mod error;
 pub mod types;

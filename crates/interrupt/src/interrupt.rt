@@ -73,24 +73,17 @@ impl InterruptRecord {
         self.life
     }
 
-    // The record with its flags at other values.
-    fn with_life(mut self, life: Life) -> Self
-        ensures { λ r. ⌜ r ≡ withLife life self ⌝ }
-    {
-        self.life = life;
-        self
-    }
-
     pub fn enabled(self) -> bool
         ensures { λ r. ⌜ r ≡ self .life .enabled ⌝ }
     {
         self.life.enabled
     }
 
-    pub fn set_enabled(self, enabled: bool) -> Self
+    pub fn set_enabled(mut self, enabled: bool) -> Self
         ensures { λ r. ⌜ r ≡ withLife (enabledTo enabled (self .life)) self ⌝ }
     {
-        self.with_life(self.life.set_enabled(enabled))
+        self.life = self.life.set_enabled(enabled);
+        self
     }
 
     pub fn pending(self) -> bool
@@ -99,10 +92,11 @@ impl InterruptRecord {
         self.life.pending
     }
 
-    pub fn set_pending(self, pending: bool) -> Self
+    pub fn set_pending(mut self, pending: bool) -> Self
         ensures { λ r. ⌜ r ≡ withLife (pendingTo pending (self .life)) self ⌝ }
     {
-        self.with_life(self.life.set_pending(pending))
+        self.life = self.life.set_pending(pending);
+        self
     }
 
     pub fn active(self) -> bool
@@ -111,10 +105,11 @@ impl InterruptRecord {
         self.life.active
     }
 
-    pub fn set_active(self, active: bool) -> Self
+    pub fn set_active(mut self, active: bool) -> Self
         ensures { λ r. ⌜ r ≡ withLife (activeTo active (self .life)) self ⌝ }
     {
-        self.with_life(self.life.set_active(active))
+        self.life = self.life.set_active(active);
+        self
     }
 
     pub fn state(self) -> InterruptState
@@ -123,10 +118,11 @@ impl InterruptRecord {
         InterruptState::of(self.life.pending, self.life.active)
     }
 
-    pub fn set_state(self, state: InterruptState) -> Self
+    pub fn set_state(mut self, state: InterruptState) -> Self
         ensures { λ r. ⌜ r ≡ withLife (stateTo (pendingOf state) (activeOf state) (self .life)) self ⌝ }
     {
-        self.with_life(self.life.set_state(state.is_pending(), state.is_active()))
+        self.life = self.life.set_state(state.is_pending(), state.is_active());
+        self
     }
 
     pub fn has_delivery_state(self) -> bool
@@ -135,50 +131,52 @@ impl InterruptRecord {
         self.life.has_delivery_state()
     }
 
-    pub fn clear_delivery_state(self) -> Self
+    pub fn clear_delivery_state(mut self) -> Self
         ensures { λ r. ⌜ r ≡ withLife (cleared (self .life)) self ⌝ }
     {
-        self.with_life(self.life.clear_delivery_state())
+        self.life = self.life.clear_delivery_state();
+        self
     }
 
-    pub fn mark_inflight(self) -> Self
+    pub fn mark_inflight(mut self) -> Self
         ensures { λ r. ⌜ r ≡ withLife (taken (self .life)) self ⌝ }
     {
-        self.with_life(self.life.mark_inflight())
+        self.life = self.life.mark_inflight();
+        self
     }
 
-    pub fn synchronize_inflight(self, state: InterruptState) -> Synchronized
+    pub fn synchronize_inflight(mut self, state: InterruptState) -> Synchronized
         ensures { λ r. ⌜ r ≡ record { interrupt = synchronizedWith state self; state = stateIn (synchronizedWith state self) } ⌝ }
     {
-        let life = self.life
+        self.life = self.life
             .synchronize_inflight(state.is_pending(), state.is_active());
-        let next = self.with_life(life);
         Synchronized {
-            interrupt: next,
-            state: next.state(),
+            interrupt: self,
+            state: self.state(),
         }
     }
 
-    pub fn cancel_inflight(self) -> Self
+    pub fn cancel_inflight(mut self) -> Self
         ensures { λ r. ⌜ r ≡ withLife (cancelled (self .life)) self ⌝ }
     {
-        self.with_life(self.life.cancel_inflight())
+        self.life = self.life.cancel_inflight();
+        self
     }
 
-    pub fn finish_inflight(self) -> Self
+    pub fn finish_inflight(mut self) -> Self
         ensures { λ r. ⌜ r ≡ withLife (deactivated (isLevel self) false (self .life)) self ⌝ }
     {
-        self.deactivate_inflight(false)
+        self = self.deactivate_inflight(false);
+        self
     }
 
-    pub fn deactivate_inflight(self, pending_in_delivery: bool) -> Self
+    pub fn deactivate_inflight(mut self, pending_in_delivery: bool) -> Self
         ensures { λ r. ⌜ r ≡ withLife (deactivated (isLevel self) «pending_in_delivery» (self .life)) self ⌝ }
     {
         let trigger = self.trigger;
-        self.with_life(
-            self.life
-                .deactivate_inflight(trigger.is_level(), pending_in_delivery),
-        )
+        self.life = self.life
+            .deactivate_inflight(trigger.is_level(), pending_in_delivery);
+        self
     }
 
     pub fn priority(self) -> Priority
@@ -267,24 +265,27 @@ impl InterruptRecord {
         self
     }
 
-    pub fn set_level(self, asserted: bool) -> Self
+    pub fn set_level(mut self, asserted: bool) -> Self
         ensures { λ r. ⌜ r ≡ lineTo asserted self ⌝ }
     {
         let trigger = self.trigger;
-        self.with_life(self.life.set_level(trigger.is_level(), asserted))
+        self.life = self.life.set_level(trigger.is_level(), asserted);
+        self
     }
 
-    pub fn pulse(self) -> Self
+    pub fn pulse(mut self) -> Self
         ensures { λ r. ⌜ r ≡ linePulsed self ⌝ }
     {
-        self.with_life(self.life.pulse())
+        self.life = self.life.pulse();
+        self
     }
 
-    pub fn complete(self) -> Self
+    pub fn complete(mut self) -> Self
         ensures { λ r. ⌜ r ≡ withLife (completed (isLevel self) (self .life)) self ⌝ }
     {
         let trigger = self.trigger;
-        self.with_life(self.life.complete(trigger.is_level()))
+        self.life = self.life.complete(trigger.is_level());
+        self
     }
 
     pub fn deliverable(self) -> bool

@@ -1,7 +1,6 @@
-// The six flags of an interrupt, and what each operation makes of them. An operation that waits on the trigger is told whether the
-// interrupt is level-sensitive.
+// The six flags of an interrupt, and what each operation makes of them. An operation that depends on the trigger is told whether
+// the interrupt is level-sensitive.
 ghost use mathlib.Core.Path.{_≡_};
-ghost use mathlib.Core.Bool.{false};
 ghost use Rattle.life.specs.Life.{born, enabledTo, pendingTo, activeTo, stateTo, hasDelivery, cleared, taken, synchronized, cancelled, deactivated, levelTo, pulsed, completed, deliverable};
 
 pub struct Life {
@@ -106,21 +105,23 @@ impl Life {
     }
 
     // A level line that is high asks for delivery for as long as it stays high.
-    pub fn deactivate_inflight(mut self, level: bool, pending_in_delivery: bool) -> Self
-        ensures { λ r. ⌜ r ≡ deactivated level «pending_in_delivery» self ⌝ }
+    pub fn deactivate_inflight(mut self, level_sensitive: bool, pending_in_delivery: bool) -> Self
+        ensures { λ r. ⌜ r ≡ deactivated «level_sensitive» «pending_in_delivery» self ⌝ }
     {
-        self.pending = pending_in_delivery | self.redelivery_pending | level & self.line_asserted;
+        self.pending = pending_in_delivery
+            | self.redelivery_pending
+            | level_sensitive & self.line_asserted;
         self.inflight = false;
         self.active = false;
         self.redelivery_pending = false;
         self
     }
 
-    pub fn set_level(mut self, level: bool, asserted: bool) -> Self
-        ensures { λ r. ⌜ r ≡ levelTo level asserted self ⌝ }
+    pub fn set_level(mut self, level_sensitive: bool, asserted: bool) -> Self
+        ensures { λ r. ⌜ r ≡ levelTo «level_sensitive» asserted self ⌝ }
     {
         let rising = asserted & !self.line_asserted;
-        let stays = asserted | self.active | !level;
+        let stays = asserted | self.active | !level_sensitive;
         self.pending = asserted | self.pending & stays;
         self.redelivery_pending = self.redelivery_pending & stays
             | self.inflight & self.active & rising;
@@ -137,10 +138,10 @@ impl Life {
         self
     }
 
-    pub fn complete(mut self, level: bool) -> Self
-        ensures { λ r. ⌜ r ≡ completed level self ⌝ }
+    pub fn complete(mut self, level_sensitive: bool) -> Self
+        ensures { λ r. ⌜ r ≡ completed «level_sensitive» self ⌝ }
     {
-        self.pending = self.pending | level & self.line_asserted;
+        self.pending = self.pending | level_sensitive & self.line_asserted;
         self.active = false;
         self
     }

@@ -2,14 +2,14 @@
 use Prim.Native.Nat.{ℕ, _+_}
 use mathlib.Core.Bool.{Bool, false, _&&_, cond}
 use mathlib.Core.List.{List, [], _∷_}
-use lib.Dec.{leb, eqb}
+use lib.Dec.{eqb}
 use lib.ListN.{length, getD}
 use Rattle.theory.specs.Lists.{mapAt, tabulate, laid, passing}
 use Rattle.identifiers.specs.Answer.{Answer, done, refused, toldRefusal, unless}
 use Rattle.interrupt.specs.Records.{deliverableIn}
 use Rattle.place.specs.Table.{capacity, createAnswer, tableSize, inTable}
 use Rattle.controller.specs.declared.controller.ControllerConfig.{ControllerConfig}
-use Rattle.controller.specs.Ownership.{explicit}
+use Rattle.controller.specs.Modes.{explicit}
 use Rattle.controller.specs.Identity.{componentId, iidrValue, switchBit, ctlrValue, typerValue}
 use Rattle.bank.specs.Banks.{bit}
 use Rattle.registers.specs.declared.register.AccessWidth.{AccessWidth}

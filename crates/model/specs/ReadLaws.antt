@@ -19,7 +19,7 @@ use Rattle.place.specs.Table.{inTable}
 use Rattle.bank.specs.Banks.{bitsOf, shown}
 use Rattle.registers.specs.Registers.{bytesOf}
 use Rattle.decoding.specs.Decoding.{decode}
-use Rattle.controller.specs.Ownership.{explicit}
+use Rattle.controller.specs.Modes.{explicit}
 use Rattle.ownership.specs.Owned.{owned}
 use Rattle.slot.specs.BankRule.{slotOf, shownAt, bankValue, readBeyond}
 use Rattle.controller.specs.Identity.{componentId, ctlrValue, typerValue}

@@ -19,7 +19,7 @@ use Rattle.registers.specs.declared.register.Access.the-variants.{To, Refused}
 use Rattle.registers.specs.declared.register.Direction.the-variants.{Reading, Writing}
 use Rattle.registers.specs.Registers.{lookup, map}
 use Rattle.decoding.specs.Decoding.{legal, decode, writeAccess}
-use Rattle.controller.specs.Ownership.{explicit}
+use Rattle.controller.specs.Modes.{explicit}
 use Rattle.controller.specs.Identity.{switchBit}
 use Rattle.slot.specs.BankRule.{candidate, bankCandidates, writeBeyond}
 use Rattle.slot.specs.BankRuleLaws.{candidate-in}

@@ -26,7 +26,7 @@ use Rattle.registers.specs.declared.register.Access.the-variants.{To, Refused}
 use Rattle.registers.specs.declared.register.Direction.the-variants.{Writing}
 use Rattle.registers.specs.Registers.{bytesOf}
 use Rattle.decoding.specs.Decoding.{decode, writeAccess}
-use Rattle.controller.specs.Ownership.{explicit}
+use Rattle.controller.specs.Modes.{explicit}
 use Rattle.controller.specs.Identity.{switchBit}
 use Rattle.decoding.specs.WidthLaws.{decode-covers}
 use Rattle.slot.specs.declared.slot.Slot.{Slot}

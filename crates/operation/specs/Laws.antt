@@ -24,7 +24,7 @@ Settings = Priority × TriggerMode × Bool × GicAffinity × Bool × ℕ
 abbrev pub settingsOf : InterruptRecord → Settings
 settingsOf r = (r .priority, r .trigger, r .routed, r .route, r .masked, r .«cpu_target_mask»)
 
--- a level line that goes low lets pending and the mark stand
+-- whether a line that goes low lets pending and the mark stand: the interrupt is active, or not level-sensitive
 abbrev pub stands : Bool → Life → Bool
 stands level f = f .active || not level
 

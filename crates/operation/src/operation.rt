@@ -1,5 +1,5 @@
 // The operations that only change a record, as values: a caller names one, and `apply` does it. Two are not among them: a
-// synchronisation also answers a state, and a target mask waits on whether the SPI's route is fixed, which no record knows.
+// synchronisation also answers a state, and a target mask depends on whether the SPI's route is fixed, which no record knows.
 use attributes::attributes::GicAffinity;
 use attributes::attributes::InterruptState;
 use attributes::attributes::Priority;

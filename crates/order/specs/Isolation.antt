@@ -8,7 +8,7 @@ use Rattle.theory.specs.MapAtLaws.{relates-mapAt}
 use Rattle.identifiers.specs.Answer.{done, unless}
 use Rattle.place.specs.Table.{tableSize, inTable}
 use Rattle.controller.specs.declared.controller.ControllerConfig.{ControllerConfig}
-use Rattle.controller.specs.Ownership.{explicit}
+use Rattle.controller.specs.Modes.{explicit}
 use Rattle.bank.specs.declared.bank.Bank.{Bank}
 use Rattle.bank.specs.Banks.{shown, acts, lists, field}
 use Rattle.bank.specs.BankLaws.{packed-same}

@@ -12,7 +12,7 @@ use Rattle.theory.specs.Bools.{both}
 use Rattle.theory.specs.Elements.{at-all, at-mapAt, at-holds}
 use Rattle.identifiers.specs.Answer.{done, refused}
 use Rattle.place.specs.Table.{inTable}
-use Rattle.controller.specs.Ownership.{explicit}
+use Rattle.controller.specs.Modes.{explicit}
 use Rattle.registers.specs.declared.register.Register.the-variants.{Identification, Ctlr, Typer, Iidr, Fields, Reserved}
 use Rattle.registers.specs.declared.register.Access.{Access}
 use Rattle.registers.specs.declared.register.Access.the-variants.{To, Refused}

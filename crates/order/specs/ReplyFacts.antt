@@ -13,7 +13,7 @@ use Rattle.identifiers.specs.Answer.{Answer, done, refused, within, unless}
 use Rattle.interrupt.specs.Records.{deliverableIn}
 use Rattle.place.specs.Table.{tableSize, inTable}
 use Rattle.controller.specs.declared.controller.ControllerConfig.{ControllerConfig}
-use Rattle.controller.specs.Ownership.{explicit}
+use Rattle.controller.specs.Modes.{explicit}
 use Rattle.controller.specs.Identity.{switchBit, ctlrValue}
 use Rattle.bank.specs.declared.bank.Bank.{Bank}
 use Rattle.bank.specs.Banks.{bit, acts, lists, field}

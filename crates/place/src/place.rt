@@ -2,7 +2,7 @@
 use identifiers::error::Refusal;
 ghost use mathlib.Core.Path.{_≡_};
 ghost use Prim.Native.Nat.{_+_, _-_, min, max};
-ghost use Rattle.place.specs.Table.{capacity, createAnswer, createdCount, toldCreate, tableSize, inTable, toldPlace, placeAnswer, spanOf};
+ghost use Rattle.place.specs.Table.{capacity, createAnswer, createdCount, toldCreate, tableSize, inTable, beyondTable, toldPlace, placeAnswer, spanOf};
 
 // How many SPIs a table has room for: INTIDs 32 to 1019.
 pub const SPIS: usize = 988;
@@ -64,6 +64,13 @@ fn in_table(count: u32, i: u32) -> bool
     ensures { λ r. ⌜ r ≡ inTable (tableSize count) i ⌝ }
 {
     (32 <= i) & (i < 32 + table_size(count))
+}
+
+// With explicit claims, an INTID that could be an SPI's and is not in a table of n SPIs.
+pub fn is_beyond(explicit: bool, n: u32, i: u64) -> bool
+    ensures { λ r. ⌜ r ≡ beyondTable explicit n i ⌝ }
+{
+    explicit & ((32 + n as u64 <= i) & (i < 1020))
 }
 
 fn first_spi(lo: u32) -> u32

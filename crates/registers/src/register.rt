@@ -140,11 +140,11 @@ fn takes(direction: Direction, reads: u64, writes: u64, width: AccessWidth) -> b
     }
 }
 
-fn bank_numbered(kind: usize) -> Bank
-    requires { ⌜ (4 ≤ kind) × (kind < 14) ⌝ }
-    ensures { λ r. ⌜ kindAt kind ≡ bank r ⌝ }
+fn bank_numbered(row: usize) -> Bank
+    requires { ⌜ (4 ≤ row) × (row < 14) ⌝ }
+    ensures { λ r. ⌜ kindAt row ≡ bank r ⌝ }
 {
-    match kind {
+    match row {
         IGROUPR => Bank::Replace(Field::Group),
         ISENABLER => Bank::Set(Flag::Enabled),
         ICENABLER => Bank::Clear(Flag::Enabled),
@@ -160,17 +160,17 @@ fn bank_numbered(kind: usize) -> Bank
 }
 
 // What an access reaches, `at` bytes from where its row starts.
-fn register_at(kind: usize, at: u64, width: AccessWidth) -> Register
-    requires { ⌜ (kind < 14) × (at < 0x2000) ⌝ }
-    ensures { λ r. ⌜ r ≡ registerAt (kindAt kind) at width ⌝ }
+fn register_at(row: usize, at: u64, width: AccessWidth) -> Register
+    requires { ⌜ (row < 14) × (at < 0x2000) ⌝ }
+    ensures { λ r. ⌜ r ≡ registerAt (kindAt row) at width ⌝ }
 {
-    match kind {
+    match row {
         IDENTIFICATION => Register::Identification((at / 4) as u32),
         CTLR => Register::Ctlr,
         TYPER => Register::Typer,
         IIDR => Register::Iidr,
         _ => {
-            let bank = bank_numbered(kind);
+            let bank = bank_numbered(row);
             let bits = bank.bits();
             let first = at * 8 / bits;
             let count = width.size() * 8 / bits;

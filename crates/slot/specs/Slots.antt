@@ -27,12 +27,12 @@ freshSpi raw = record { interrupt = fresh (IntId.Spi (record { 0 = raw })) Trigg
 abbrev pub showing : Bool → Bank → Slot → ℕ
 showing explicit b s = visible explicit (s .ownership) (shown b (s .interrupt))
 
-abbrev pub made : Effect → InterruptRecord → InterruptRecord
-made Leave r = r
-made (Apply o) r = applied o r
+abbrev pub afterEffect : Effect → InterruptRecord → InterruptRecord
+afterEffect Leave r = r
+afterEffect (Apply o) r = applied o r
 
 abbrev pub effected : Effect → Slot → Slot
-effected e s = record { interrupt = made e (s .interrupt); ownership = s .ownership }
+effected e s = record { interrupt = afterEffect e (s .interrupt); ownership = s .ownership }
 
 -- what a field leaves of an SPI
 abbrev pub fieldWritten : Bool → Bank → ℕ → Slot → Slot

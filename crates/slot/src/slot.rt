@@ -13,7 +13,7 @@ ghost use mathlib.Core.Path.{_≡_};
 ghost use Prim.Native.Nat.{_^_, _<_};
 ghost use Rattle.bank.specs.Banks.{bitsOf};
 ghost use Rattle.interrupt.specs.Records.{deliverableIn};
-ghost use Rattle.slot.specs.Slots.{freshSpi, showing, made, fieldWritten, fieldListed, changed};
+ghost use Rattle.slot.specs.Slots.{freshSpi, showing, afterEffect, fieldWritten, fieldListed, changed};
 
 // Only the functions below make a slot or change one, and nothing puts a slot into a Distributor from outside.
 pub struct Slot {
@@ -27,8 +27,8 @@ pub struct FieldWritten {
     pub listed: bool,
 }
 
-fn made(interrupt: InterruptRecord, effect: Effect) -> InterruptRecord
-    ensures { λ r. ⌜ r ≡ made effect interrupt ⌝ }
+fn after_effect(interrupt: InterruptRecord, effect: Effect) -> InterruptRecord
+    ensures { λ r. ⌜ r ≡ afterEffect effect interrupt ⌝ }
 {
     match effect {
         Effect::Leave => interrupt,
@@ -83,7 +83,7 @@ impl Slot {
         let ownership = self.ownership;
         let does = written(explicit, ownership, bank, field);
         let effect = does.effect;
-        let next = made(self.interrupt, effect);
+        let next = after_effect(self.interrupt, effect);
         FieldWritten {
             slot: Slot {
                 interrupt: next,

@@ -5,7 +5,7 @@ use native.Mathlib.Nat.{pow-zero}
 use native.Mathlib.Omega.{arith}
 use Rattle.place.specs.declared.place.Span.{Span}
 use Rattle.place.specs.Table.{tableSize}
-use Rattle.controller.specs.Ownership.{explicit}
+use Rattle.controller.specs.Modes.{explicit}
 use Rattle.bank.specs.Banks.{bitsOf, packed}
 use Rattle.bank.proofs.Digits.{below-same}
 use Rattle.slot.specs.BankRule.{shownAt}

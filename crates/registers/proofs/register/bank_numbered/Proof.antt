@@ -36,7 +36,7 @@ returns-9 c = ap kindAt (c .match .keys9)
 returns-10 : tie.Need-returns-10
 returns-10 c =
     let r = c .match .rest in
-    let n = c .before .args .kind in
+    let n = c .before .args .row in
     let low = beyond n 12 (beyond n 11 (beyond n 10 (beyond n 9 (beyond n 8 (beyond n 7 (beyond n 6 (beyond n 5 (beyond n 4 (c .before .pre .0) (r .0 .0 .0 .0 .0 .0 .0 .0 .1)) (r .0 .0 .0 .0 .0 .0 .0 .1)) (r .0 .0 .0 .0 .0 .0 .1)) (r .0 .0 .0 .0 .0 .1)) (r .0 .0 .0 .0 .1)) (r .0 .0 .0 .1)) (r .0 .0 .1)) (r .0 .1)) (r .1) in
     let e : n ≡ 13 = omega arith in
     ap kindAt e

@@ -1,6 +1,6 @@
 -- `read` meets its contract: the access is decoded, and its register read.
 use mathlib.Core.Path.{sym, ap, _∙_}
-use Rattle.decoding.proofs.Bounds.{decode-bounded, decode-whole}
+use Rattle.decoding.proofs.Bounding.{decode-bounded, decode-whole}
 use Rattle.registers.specs.declared.register.Direction.the-variants.{Reading}
 use Rattle.model.specs.Calls.{readReply, reply}
 use Rattle.distributor.specs.Model.{modelOf}

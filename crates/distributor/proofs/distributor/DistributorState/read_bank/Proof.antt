@@ -4,7 +4,7 @@ use mathlib.Core.Path.{_≡_, ap, _∙_}
 use mathlib.Core.List.{[], _∷_}
 use Rattle.identifiers.specs.Answer.{done, unless}
 use Rattle.place.specs.Table.{tableSize}
-use Rattle.controller.specs.Ownership.{explicit}
+use Rattle.controller.specs.Modes.{explicit}
 use Rattle.bank.specs.Banks.{firstOf, toldBeyond}
 use Rattle.slot.specs.BankRule.{bankValue, readBeyond}
 use Rattle.model.specs.Calls.{plain}

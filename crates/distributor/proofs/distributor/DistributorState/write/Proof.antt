@@ -6,7 +6,7 @@ use denote.Ref.{now}
 use Rattle.place.specs.Table.{tableSize}
 use Rattle.registers.specs.declared.register.Direction.the-variants.{Writing}
 use Rattle.decoding.specs.Decoding.{writeAccess}
-use Rattle.decoding.proofs.Bounds.{decode-bounded}
+use Rattle.decoding.proofs.Bounding.{decode-bounded}
 use Rattle.distributor.proofs.Replying.{granted, written-so, refused-writes}
 use borrow.Author.Needs.{needs}
 use Rattle.distributor.proofs.distributor.DistributorState.write.Statement.{statement}

@@ -2,7 +2,7 @@
 use mathlib.Core.Path.{_≡_, ap, _∙_}
 use denote.Ref.{now}
 use Rattle.place.specs.Table.{tableSize}
-use Rattle.controller.specs.Ownership.{explicit}
+use Rattle.controller.specs.Modes.{explicit}
 use Rattle.bank.specs.Banks.{firstOf, toldBeyond}
 use Rattle.slot.specs.BankRule.{candidate, writeBeyond}
 use Rattle.distributor.specs.Model.{modelOf}
@@ -17,8 +17,8 @@ is-explicit-requires c κs = search needs
 size-requires : tie.Need-size-requires
 size-requires c κs = search needs
 
-first-beyond-requires : tie.Need-first-beyond-requires
-first-beyond-requires c κs = search needs
+write-beyond-requires : tie.Need-write-beyond-requires
+write-beyond-requires c κs = search needs
 
 lists-requires : tie.Need-lists-requires
 lists-requires c κs = search needs
@@ -44,8 +44,8 @@ returns c =
     let n = tableSize (a .self .«spi_count») in
     let l = writeBeyond E n (a .bank) (a .value) (a .lo) (a .m) in
     let t = candidate E n (a .bank) (a .value) (a .lo) (a .m) (a .self .slots) in
-    let x = fb .first-beyond .result in
-    let e : toldBeyond x ≡ firstOf l = fb .first-beyond .ensures ∙ (rw (ex .is-explicit .ensures, sz .size .ensures)) in
+    let x = fb .write-beyond .result in
+    let e : toldBeyond x ≡ firstOf l = fb .write-beyond .ensures ∙ (rw (ex .is-explicit .ensures, sz .size .ensures)) in
     let w = wf .write-fields .ensures in
     (ap modelOf (w .0), bank-told x l t (a .lo) (a .m) (now (a .list)) _ (wf .write-fields .result .count) (modelOf (a .self)) _ (ls .lists .result) e (ls .lists .ensures) (w .1) (c .write-answer .ensures))
 
@@ -55,7 +55,7 @@ write-bank-spec =
     (tie.spec
     is-explicit-requires
     size-requires
-    first-beyond-requires
+    write-beyond-requires
     lists-requires
     write-fields-requires
     write-answer-requires

@@ -1,4 +1,5 @@
 use borrow.Author.Needs.{needs}
+use Rattle.interrupt.specs.Records.{withLife}
 use Rattle.interrupt.proofs.interrupt.InterruptRecord.complete.Statement.{statement}
 use Rattle.interrupt.proofs.interrupt.InterruptRecord.complete.Tie as tie
 
@@ -8,11 +9,9 @@ is-level-requires c κs = search needs
 complete-requires : tie.Need-complete-requires
 complete-requires c κs = search needs
 
-with-life-requires : tie.Need-with-life-requires
-with-life-requires c κs = search needs
-
 returns : tie.Need-returns
-returns c = rw (c .with-life .ensures, c .before .complete .ensures, c .before .before .is-level .ensures)
+unfolding withLife
+returns c = rw (c .complete .ensures, c .before .is-level .ensures)
 
 pub complete-spec : {M : Type 1} → statement M
-complete-spec = tie.close (tie.spec is-level-requires complete-requires with-life-requires returns)
+complete-spec = tie.close (tie.spec is-level-requires complete-requires returns)

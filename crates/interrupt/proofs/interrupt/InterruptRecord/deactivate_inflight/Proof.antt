@@ -1,7 +1,6 @@
 use borrow.Author.Needs.{needs}
-use Rattle.interrupt.proofs.interrupt.InterruptRecord.deactivate_inflight.Statement.{
-  statement,
-}
+use Rattle.interrupt.specs.Records.{withLife}
+use Rattle.interrupt.proofs.interrupt.InterruptRecord.deactivate_inflight.Statement.{statement}
 use Rattle.interrupt.proofs.interrupt.InterruptRecord.deactivate_inflight.Tie as tie
 
 is-level-requires : tie.Need-is-level-requires
@@ -10,12 +9,9 @@ is-level-requires c κs = search needs
 deactivate-inflight-requires : tie.Need-deactivate-inflight-requires
 deactivate-inflight-requires c κs = search needs
 
-with-life-requires : tie.Need-with-life-requires
-with-life-requires c κs = search needs
-
 returns : tie.Need-returns
-returns c = rw (c .with-life .ensures, c .before .deactivate-inflight .ensures, c .before .before .is-level .ensures)
+unfolding withLife
+returns c = rw (c .deactivate-inflight .ensures, c .before .is-level .ensures)
 
 pub deactivate-inflight-spec : {M : Type 1} → statement M
-deactivate-inflight-spec =
-    tie.close (tie.spec is-level-requires deactivate-inflight-requires with-life-requires returns)
+deactivate-inflight-spec = tie.close (tie.spec is-level-requires deactivate-inflight-requires returns)

@@ -1,15 +1,14 @@
 use borrow.Author.Needs.{needs}
+use Rattle.interrupt.specs.Records.{withLife}
 use Rattle.interrupt.proofs.interrupt.InterruptRecord.set_pending.Statement.{statement}
 use Rattle.interrupt.proofs.interrupt.InterruptRecord.set_pending.Tie as tie
 
 set-pending-requires : tie.Need-set-pending-requires
 set-pending-requires c κs = search needs
 
-with-life-requires : tie.Need-with-life-requires
-with-life-requires c κs = search needs
-
 returns : tie.Need-returns
-returns c = rw (c .with-life .ensures, c .before .set-pending .ensures)
+unfolding withLife
+returns c = rw (c .set-pending .ensures)
 
 pub set-pending-spec : {M : Type 1} → statement M
-set-pending-spec = tie.close (tie.spec set-pending-requires with-life-requires returns)
+set-pending-spec = tie.close (tie.spec set-pending-requires returns)

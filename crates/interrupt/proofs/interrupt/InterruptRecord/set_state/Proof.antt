@@ -1,4 +1,5 @@
 use borrow.Author.Needs.{needs}
+use Rattle.interrupt.specs.Records.{withLife}
 use Rattle.interrupt.proofs.interrupt.InterruptRecord.set_state.Statement.{statement}
 use Rattle.interrupt.proofs.interrupt.InterruptRecord.set_state.Tie as tie
 
@@ -11,13 +12,9 @@ is-active-requires c κs = search needs
 set-state-requires : tie.Need-set-state-requires
 set-state-requires c κs = search needs
 
-with-life-requires : tie.Need-with-life-requires
-with-life-requires c κs = search needs
-
 returns : tie.Need-returns
-returns c = rw (c .with-life .ensures, c .before .set-state .ensures, c .before .before .is-active .ensures, c .before .before .before .is-pending .ensures)
+unfolding withLife
+returns c = rw (c .set-state .ensures, c .before .is-active .ensures, c .before .before .is-pending .ensures)
 
 pub set-state-spec : {M : Type 1} → statement M
-set-state-spec =
-    tie.close
-    (tie.spec is-pending-requires is-active-requires set-state-requires with-life-requires returns)
+set-state-spec = tie.close (tie.spec is-pending-requires is-active-requires set-state-requires returns)

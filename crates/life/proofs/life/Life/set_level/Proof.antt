@@ -19,7 +19,7 @@ same level false f = simp (and-false, or-false)
 
 returns : tie.Need-returns
 unfolding left
-returns c = let a = c .before .before .before .before .before .args in same (a .level) (a .asserted) (a .self)
+returns c = let a = c .before .before .before .before .before .args in same (a .level-sensitive) (a .asserted) (a .self)
 
 pub set-level-spec : {M : Type 1} → statement M
 set-level-spec = tie.close (tie.spec returns)

@@ -1,4 +1,4 @@
--- `first_beyond` meets its contract: none of the first j INTIDs is refused.
+-- `write_beyond` meets its contract: none of the first j INTIDs is refused.
 use Prim.Native.Nat.{_-_, _/_, _^_, _≤_}
 use mathlib.Core.Path.{_≡_, refl, sym, ap, _∙_}
 use mathlib.Core.List.{[]}
@@ -10,8 +10,8 @@ use Rattle.theory.specs.Lists.{passing}
 use Rattle.bank.specs.Banks.{refusedOver, firstOf}
 use Rattle.bank.proofs.Refusing.{beyond-small, refuses, none-more, first-found}
 use Rattle.bank.proofs.Digits.{used}
-use Rattle.bank.proofs.bank.first_beyond.Statement.{statement}
-use Rattle.bank.proofs.bank.first_beyond.Tie as tie
+use Rattle.bank.proofs.bank.write_beyond.Statement.{statement}
+use Rattle.bank.proofs.bank.write_beyond.Tie as tie
 
 abbrev Inv-loop : tie.InvT-loop
 Inv-loop explicit n bank value lo m v₀ j₀ v j =
@@ -91,8 +91,8 @@ returns-2 c =
     let e = rw z at (c .before .loop .inv .2) in
     sym (ap firstOf e)
 
-pub first-beyond-spec : {M : Type 1} → statement M
-first-beyond-spec =
+pub write-beyond-spec : {M : Type 1} → statement M
+write-beyond-spec =
     tie.close
     (tie.spec
     Inv-loop
