@@ -24,7 +24,7 @@ use Rattle.decoding.specs.Decoding.{decode, writeAccess}
 use Rattle.registers.specs.declared.register.Access.{Access}
 use Rattle.registers.specs.declared.register.Access.the-variants.{To, Refused}
 use Rattle.answers.specs.Answers.{toldWrite}
-use Rattle.model.specs.Calls.{Distributor, Reply, size, write, listing, listingUnless, writeReply, reply, step}
+use Rattle.model.specs.Calls.{Outcome, outcome, size, write, listing, listingUnless, writeReply, reply, step}
 use Rattle.distributor.specs.declared.distributor.DistributorState.{DistributorState}
 use Rattle.distributor.specs.declared.access.Wrote.{Wrote}
 use Rattle.distributor.specs.Model.{modelOf}
@@ -43,29 +43,29 @@ unless-beyond (At k) [] a e = cc
 unless-beyond (At k) (i ∷ is) a e = let z : k ≡ i = cc in rw z
 
 -- the same of a write and its list: where it is refused, the loop was told to list nothing
-listing-beyond : (x : Beyond) (l : List ℕ) (t : ℕ → Bool) (lo m : ℕ) (old new : List ℕ) (n : ℕ) (d : Distributor) → toldBeyond x ≡ firstOf l
+listing-beyond : (x : Beyond) (l : List ℕ) (t : ℕ → Bool) (lo m : ℕ) (old new : List ℕ) (n : ℕ) → toldBeyond x ≡ firstOf l
     → LaidOut (passing (λ i. listsUnless x && t i) lo m) old new n
-    → _≡_ {A = Reply} (record { answer = unless (toldBeyond x) (done (n ∷ [])); list = new }) (listingUnless d l (passing t lo m) old)
-listing-beyond Nothing [] t lo m old new n d e h = rw (h .0, h .1)
-listing-beyond Nothing (i ∷ is) t lo m old new n d e h = cc
-listing-beyond (At k) [] t lo m old new n d e h = cc
-listing-beyond (At k) (i ∷ is) t lo m old new n d e h =
+    → _≡_ {A = Outcome} (record { answer = unless (toldBeyond x) (done (n ∷ [])); list = new }) (outcome (listingUnless l (passing t lo m)) old)
+listing-beyond Nothing [] t lo m old new n e h = rw (h .0, h .1)
+listing-beyond Nothing (i ∷ is) t lo m old new n e h = cc
+listing-beyond (At k) [] t lo m old new n e h = cc
+listing-beyond (At k) (i ∷ is) t lo m old new n e h =
     let z : k ≡ i = cc in
     let none : passing (λ j. false) lo m ≡ [] = passing-never (λ j. false) lo m (λ j. refl) in
     let same : new ≡ old = h .0 ∙ ap (λ (c : List ℕ). laid c old) none in
     rw (z, same)
 
-pub bank-told : (x : Beyond) (l : List ℕ) (t : ℕ → Bool) (lo m : ℕ) (old new : List ℕ) (n : ℕ) (d : Distributor) (a : Answer) (tells : Bool) → toldBeyond x ≡ firstOf l → tells ≡ listsUnless x
+pub bank-told : (x : Beyond) (l : List ℕ) (t : ℕ → Bool) (lo m : ℕ) (old new : List ℕ) (n : ℕ) (a : Answer) (tells : Bool) → toldBeyond x ≡ firstOf l → tells ≡ listsUnless x
     → LaidOut (passing (λ i. tells && t i) lo m) old new n → a ≡ unless (toldBeyond x) (done (n ∷ []))
-    → _≡_ {A = Reply} (record { answer = a; list = new }) (listingUnless d l (passing t lo m) old)
-bank-told x l t lo m old new n d a tells e k h q =
+    → _≡_ {A = Outcome} (record { answer = a; list = new }) (outcome (listingUnless l (passing t lo m)) old)
+bank-told x l t lo m old new n a tells e k h q =
     let told : LaidOut (passing (λ i. listsUnless x && t i) lo m) old new n = subst (λ (y : Bool). LaidOut (passing (λ i. y && t i) lo m) old new n) k h in
-    ap (λ (r : Answer). record { answer = r; list = new }) q ∙ listing-beyond x l t lo m old new n d e told
+    ap (λ (r : Answer). record { answer = r; list = new }) q ∙ listing-beyond x l t lo m old new n e told
 
 module _ (d : DistributorState) (v : ℕ) (list : List ℕ) (r : Wrote) where
   -- a write that is ignored
   pub ignored : (r .state ≡ d) × (r .answer ≡ WriteAnswer.Done 0)
-      → (modelOf (r .state) ≡ modelOf (withSlots d (mapAt (λ p s. s) (d .slots)))) × (record { answer = toldWrite (r .answer); list = list } ≡ listing (modelOf d) [] list)
+      → (modelOf (r .state) ≡ modelOf (withSlots d (mapAt (λ p s. s) (d .slots)))) × (record { answer = toldWrite (r .answer); list = list } ≡ outcome (listing []) list)
   ignored h = (ap modelOf (h .0) ∙ still d, ap (λ (a : WriteAnswer). record { answer = toldWrite a; list = list }) (h .1))
 
   -- a refused write changes nothing
@@ -82,6 +82,6 @@ granted places n frame o w g h = go (ltb places n) refl h
 
 module _ (d : DistributorState) (o : ℕ) (w : AccessWidth) (v : ℕ) (list : List ℕ) where
   pub written-so : (a : Access) (r : Wrote) (left : List ℕ) → writeAccess (length list) (size (modelOf d)) (d .config .«distributor_size») o w ≡ a → ResultOfWrite d a v list r left
-      → (modelOf (r .state) ≡ step (write o w v list) (modelOf d)) × (_≡_ {A = Reply} (record { answer = toldWrite (r .answer); list = left }) (reply (write o w v list) (modelOf d)))
+      → (modelOf (r .state) ≡ step (write o w v (length list)) (modelOf d)) × (_≡_ {A = Outcome} (record { answer = toldWrite (r .answer); list = left }) (outcome (reply (write o w v (length list)) (modelOf d)) list))
   unfolding step reply
-  written-so a r left e h = (h .0 ∙ ap (λ (x : Access). afterWrite (modelOf d) x v) (sym e), h .1 ∙ ap (λ (x : Access). writeReply (modelOf d) x v list) (sym e))
+  written-so a r left e h = (h .0 ∙ ap (λ (x : Access). afterWrite (modelOf d) x v) (sym e), h .1 ∙ ap (λ (x : Access). outcome (writeReply (modelOf d) x v) list) (sym e))

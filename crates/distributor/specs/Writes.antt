@@ -5,7 +5,7 @@ use mathlib.Core.List.{List}
 use Rattle.theory.specs.Lists.{mapAt}
 use Rattle.registers.specs.declared.register.Access.{Access}
 use Rattle.answers.specs.Answers.{toldWrite}
-use Rattle.model.specs.Calls.{Distributor, size, writtenAt, switched, writeReply}
+use Rattle.model.specs.Calls.{Distributor, size, writtenAt, switched, outcome, writeReply}
 use Rattle.distributor.specs.declared.distributor.DistributorState.{DistributorState}
 use Rattle.distributor.specs.declared.access.Wrote.{Wrote}
 use Rattle.distributor.specs.Model.{modelOf}
@@ -15,4 +15,4 @@ afterWrite d a v = record { config = d .config; switch = switched (d .config) (s
 
 -- the write gives r, and leaves the list `left` where the list `lent` was
 abbrev pub ResultOfWrite : DistributorState → Access → ℕ → List ℕ → Wrote → List ℕ → Type 0
-ResultOfWrite d a v lent r left = (modelOf (r .state) ≡ afterWrite (modelOf d) a v) × (record { answer = toldWrite (r .answer); list = left } ≡ writeReply (modelOf d) a v lent)
+ResultOfWrite d a v lent r left = (modelOf (r .state) ≡ afterWrite (modelOf d) a v) × (record { answer = toldWrite (r .answer); list = left } ≡ outcome (writeReply (modelOf d) a v) lent)

@@ -28,7 +28,7 @@ ghost use Rattle.place.specs.Table.{tableSize};
 ghost use Rattle.bank.specs.Banks.{bitsOf};
 ghost use Rattle.decoding.specs.Bounds.{Bounded, Whole};
 ghost use Rattle.answers.specs.Answers.{toldRead, toldWrite};
-ghost use Rattle.model.specs.Calls.{read, write, plain, readReply, reply, step};
+ghost use Rattle.model.specs.Calls.{read, write, plain, outcome, readReply, reply, step};
 ghost use Rattle.distributor.specs.Model.{modelOf};
 ghost use Rattle.distributor.specs.Writes.{ResultOfWrite};
 
@@ -133,8 +133,8 @@ impl DistributorState {
     // A guest write. Refusals 5, 3, 4 and 1, in this order. Refused 1, it has done its work inside the table and listed nothing: the
     // host has to look for deliverable SPIs himself.
     pub fn write(self, offset: u64, width: AccessWidth, value: u64, list: &mut [u32]) -> Wrote
-        ensures state { λ r. ⌜ modelOf (r .state) ≡ step (write offset width value (now (list .entry))) (modelOf self) ⌝ }
-        ensures answer { λ r. ⌜ record { answer = toldWrite (r .answer); list = now (list .exit) } ≡ reply (write offset width value (now (list .entry))) (modelOf self) ⌝ }
+        ensures state { λ r. ⌜ modelOf (r .state) ≡ step (write offset width value (length (now (list .entry)))) (modelOf self) ⌝ }
+        ensures answer { λ r. ⌜ record { answer = toldWrite (r .answer); list = now (list .exit) } ≡ outcome (reply (write offset width value (length (now (list .entry)))) (modelOf self)) (now (list .entry)) ⌝ }
     {
         let config = self.config;
         let frame = config.distributor_size;

@@ -17,7 +17,7 @@ use Rattle.registers.specs.declared.register.AccessWidth.the-variants.{Byte, Dw
 use Rattle.decoding.specs.Decoding.{decode}
 use Rattle.changes.specs.declared.change.Change.the-variants.{Claim, ClaimTo, Release, Operate}
 use Rattle.spi.specs.declared.question.Question.the-variants.{Pending}
-use Rattle.model.specs.Calls.{Distributor, Call, create, read, write, change, ask, Reply, reply, step, created}
+use Rattle.model.specs.Calls.{Distributor, Call, create, read, write, change, ask, Outcome, outcome, reply, step, created}
 use Rattle.examples.specs.Ends.{ends-same}
 
 -- frame 0x10000, no ITS, the flags clear
@@ -28,9 +28,13 @@ plainConfig o = record { «spi_ownership» = o; «distributor_size» = 0x10000; 
 abbrev pub K : Distributor
 K = run step (change Claim 33 ∷ change Claim 64 ∷ change (ClaimTo (affinity 0 0 0 1)) 65 ∷ []) (created (plainConfig Explicit) 40)
 
--- a lent list with just enough places for K, and for 988 SPIs
+-- a lent list of n places
 abbrev pub lent : ℕ → List ℕ
 lent n = replicate n 0xa5a5
+
+-- what the caller of a write has then, if he lends the 40 places
+abbrev pub leaves : Call → Distributor → Outcome
+leaves c d = outcome (reply c d) (lent 40)
 
 abbrev pub told : Call → Distributor → Answer
 told c d = reply c d .answer
@@ -40,7 +44,7 @@ abbrev pub then : List Call → Call → Distributor → Answer
 then calls c d = told c (run step calls d)
 
 -- refused, or done, with what the list holds then
-abbrev gives : Answer → List ℕ → Reply
+abbrev pub gives : Answer → List ℕ → Outcome
 gives a l = record { answer = a; list = l }
 
 -- accesses to K by Dword, and to IROUTER by Qword
@@ -48,17 +52,17 @@ abbrev reads : ℕ → Distributor → Answer
 reads offset d = told (read offset Dword) d
 
 abbrev pub writes : ℕ → ℕ → Call
-writes offset v = write offset Dword v (lent 40)
+writes offset v = write offset Dword v 40
 
 abbrev routes : ℕ → ℕ → Call
-routes offset v = write offset Qword v (lent 40)
+routes offset v = write offset Qword v 40
 
 -- 988 SPIs, all guest-owned
 abbrev pub Full : Distributor
 Full = created (plainConfig AllGuestOwned) 988
 
 abbrev sets : Call
-sets = write 0x7f8 Qword 0x8877665544332211 (lent 988)
+sets = write 0x7f8 Qword 0x8877665544332211 988
 
 -- the paper's table, row by row
 pub record Board : Type 0 where
@@ -68,14 +72,14 @@ pub record Board : Type 0 where
   pub case4 : told (read (2 ^ 64 - 4) Dword) K ≡ refused 3 []
   pub case5 : reads 0x4 K ≡ done (0x780002 ∷ [])
   -- the list is as it was lent, and the state is K's with 64 and 65 enabled
-  pub case6 : (reply (writes 0x108 0x1ff) K ≡ gives (refused 1 (72 ∷ [])) (lent 40)) × (step (writes 0x108 0x1ff) K ≡ run step (change (Operate (SetEnabled true)) 64 ∷ change (Operate (SetEnabled true)) 65 ∷ []) K)
+  pub case6 : (leaves (writes 0x108 0x1ff) K ≡ gives (refused 1 (72 ∷ [])) (lent 40)) × (step (writes 0x108 0x1ff) K ≡ run step (change (Operate (SetEnabled true)) 64 ∷ change (Operate (SetEnabled true)) 65 ∷ []) K)
   -- the whole state is K's
-  pub case7 : (reply (writes 0x17c 0xf0000000) K ≡ gives (done (0 ∷ [])) (lent 40)) × (step (writes 0x17c 0xf0000000) K ≡ K)
+  pub case7 : (leaves (writes 0x17c 0xf0000000) K ≡ gives (done (0 ∷ [])) (lent 40)) × (step (writes 0x17c 0xf0000000) K ≡ K)
   pub case8 : told (read 0x6108 Qword) (step (routes 0x6108 0x180020304) K) ≡ done (0x100020304 ∷ [])
   pub case9 : told (read 0x6208 Qword) (step (routes 0x6208 2) K) ≡ done (1 ∷ [])
   pub case10 : told (ask Pending 33) (run step (change (Operate (SetLevel true)) 33 ∷ writes 0x284 2 ∷ []) K) ≡ done (0 ∷ [])
   -- one candidate, in the first place; the other 39 are as they were lent
-  pub case11 : reply (writes 0x0 2) (run step (change (Operate (SetEnabled true)) 33 ∷ change (Operate Pulse) 33 ∷ change Release 33 ∷ []) K) ≡ gives (done (1 ∷ [])) (33 ∷ lent 39)
+  pub case11 : leaves (writes 0x0 2) (run step (change (Operate (SetEnabled true)) 33 ∷ change (Operate Pulse) 33 ∷ change Release 33 ∷ []) K) ≡ gives (done (1 ∷ [])) (33 ∷ lent 39)
   pub case12 : told (read 0x7f8 Qword) (step sets Full) ≡ done (0x44332211 ∷ [])
 
 pub board : Board

@@ -5,7 +5,7 @@ use mathlib.Core.Path.{_≡_, refl, sym, _∙_}
 use mathlib.Core.Bool.{Bool, true, false, _&&_, cond}
 use mathlib.Core.List.{List, [], _∷_, _++_}
 use native.Mathlib.Omega.{arith}
-use lib.ListN.{length, take, drop, take-append-drop}
+use lib.ListN.{take, drop, take-append-drop}
 use Rattle.theory.specs.Bools.{refuted}
 use Rattle.theory.specs.Lists.{mapFrom}
 use Rattle.theory.specs.Runs.{run}
@@ -39,7 +39,7 @@ module _ (c : ControllerConfig) (n i : ℕ) (s : Slot) (past : inTable n i ≡ f
   call-past : (k : Call) → slotAfter c n k i s ≡ s
   call-past (create d m) = refl
   call-past (read offset w) = refl
-  call-past (write offset w v list) = write-past (writeAccess (length list) n (c .«distributor_size») offset w) v
+  call-past (write offset w v places) = write-past (writeAccess places n (c .«distributor_size») offset w) v
   call-past isSwitchedOn = refl
   call-past (rollback on) = refl
   call-past (change h raw) = rw past

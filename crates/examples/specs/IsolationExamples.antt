@@ -9,7 +9,6 @@ use lib.Dec.{eqb}
 use lib.ListN.{getD}
 use Rattle.theory.specs.Bools.{both}
 use Rattle.theory.specs.MapAtLaws.{relates-mapAt}
-use Rattle.identifiers.specs.Answer.{done}
 use Rattle.interrupt.specs.Records.{fresh, deliverableIn, withLife, linePulsed, routeTo}
 use Rattle.operation.specs.declared.operation.Operation.the-variants.{SetEnabled, Pulse}
 use Rattle.controller.specs.Modes.{explicit}
@@ -22,9 +21,9 @@ use Rattle.slot.specs.Slots.{changed}
 use Rattle.slot.specs.NoSlot.{noSlot}
 use Rattle.slot.specs.BankRule.{slotOf}
 use Rattle.changes.specs.declared.change.Change.the-variants.{Operate}
-use Rattle.model.specs.Calls.{Distributor, Call, write, change, size, slotAfter, step, reply}
+use Rattle.model.specs.Calls.{Distributor, Call, write, change, size, slotAfter, step, listing, reply}
 use Rattle.order.specs.Isolation.{AlikeSlot, Alike}
-use Rattle.examples.specs.Board.{K, lent}
+use Rattle.examples.specs.Board.{K}
 
 module _ (e : Bool) (s : Slot) where
   alike-itself : AlikeSlot e s s
@@ -66,11 +65,11 @@ abbrev Pulsed : Distributor
 Pulsed = step (change (Operate Pulse) 34) Quiet
 
 abbrev turnsOn : Call
-turnsOn = write 0x0 Dword 2 (lent 40)
+turnsOn = write 0x0 Dword 2 40
 
 -- alike but for the contents of an unowned record; yet the switch, turned on, lists 34 in the one and nothing in the other
 pub switch-sees : Alike Quiet Pulsed
-    × (reply turnsOn Quiet ≡ record { answer = done (0 ∷ []); list = lent 40 })
-    × (reply turnsOn Pulsed ≡ record { answer = done (1 ∷ []); list = 34 ∷ lent 39 })
+    × (reply turnsOn Quiet ≡ listing [])
+    × (reply turnsOn Pulsed ≡ listing (34 ∷ []))
 unfolding step reply decode fresh deliverableIn withLife linePulsed routeTo
 switch-sees = (pulse-alike Quiet 34 refl, refl, refl)

@@ -27,7 +27,7 @@ use Rattle.spi.specs.declared.question.Question.the-variants.{Enabled}
 use Rattle.model.specs.Calls.{Distributor, Call, create, read, write, isSwitchedOn, rollback, change, ask, step, reply, plain, size}
 use Rattle.order.specs.Names.{theSwitch, spi, names}
 use Rattle.order.specs.Order.{named, ordered}
-use Rattle.examples.specs.Board.{K, lent, writes}
+use Rattle.examples.specs.Board.{K, writes}
 
 -- ---- what calls on K name
 
@@ -49,10 +49,10 @@ pub record NamedOnK : Type 0 where
   pub flag-write : spis (writes 0x108 0x1f9) ≡ 64 ∷ from 67 5
   pub priority : (spis (read 0x424 Dword) ≡ from 36 4) × (spis (writes 0x424 0) ≡ from 36 4)
   pub configuration : spis (writes 0xc0c 0) ≡ from 48 16
-  pub route : (spis (read 0x6108 Qword) ≡ from 33 1) × (spis (write 0x6110 Qword 0 (lent 40)) ≡ from 34 1)
+  pub route : (spis (read 0x6108 Qword) ≡ from 33 1) × (spis (write 0x6110 Qword 0 40) ≡ from 34 1)
   pub group-write : spis (writes 0x84 0xffffffff) ≡ []
   pub host : (spis (change Release 34) ≡ from 34 1) × (spis (change Release 72) ≡ [])
-  pub refused-3-4-5 : (spis (read 0x106 Dword) ≡ []) × (spis (read 0x104 Byte) ≡ []) × (spis (write 0x104 Dword 2 (lent 39)) ≡ [])
+  pub refused-3-4-5 : (spis (read 0x106 Dword) ≡ []) × (spis (read 0x104 Byte) ≡ []) × (spis (write 0x104 Dword 2 39) ≡ [])
   pub control : (spis (writes 0 2) ≡ from 32 40) × (spis (writes 0 1) ≡ []) × (spis (read 0 Dword) ≡ [])
   pub switch : (named K (writes 0 2) theSwitch ≡ true) × (named K (writes 0 1) theSwitch ≡ true) × (named K (read 0 Dword) theSwitch ≡ true) × (named K isSwitchedOn theSwitch ≡ true) × (named K (rollback true) theSwitch ≡ true)
   pub no-switch : (named K (read 0x104 Dword) theSwitch ≡ false) × (named K (writes 0x104 2) theSwitch ≡ false) × (named K (read 0 Byte) theSwitch ≡ false)
@@ -160,6 +160,6 @@ unmatched m =
 
 -- a write that is refused 1 counts: before it 64 and 65 read as disabled, after it as enabled
 pub refused-matters : (answers step reply (read 0x108 Dword ∷ writes 0x108 0x1ff ∷ read 0x108 Dword ∷ []) K
-    ≡ plain (done (0 ∷ [])) ∷ record { answer = refused 1 (72 ∷ []); list = lent 40 } ∷ plain (done (3 ∷ [])) ∷ [])
+    ≡ plain (done (0 ∷ [])) ∷ plain (refused 1 (72 ∷ [])) ∷ plain (done (3 ∷ [])) ∷ [])
 unfolding step reply decode fresh withLife routeTo
 refused-matters = refl

@@ -37,23 +37,41 @@ pub record Distributor : Type 0 where
 abbrev pub size : Distributor → ℕ
 size d = tableSize (d .count)
 
--- a call. Numbers are as handed over: INTIDs, offsets, values. A write comes with what the lent list holds
+-- a call. Numbers are as handed over: INTIDs, offsets, values. A write comes with the number of places that are lent, and not with
+-- what they hold
 pub data Call : Type 0 where
   create : ControllerConfig → ℕ → Call
   read : ℕ → AccessWidth → Call
-  write : ℕ → AccessWidth → ℕ → List ℕ → Call
+  write : ℕ → AccessWidth → ℕ → ℕ → Call
   isSwitchedOn : Call
   rollback : Bool → Call
   change : Change → ℕ → Call
   ask : Question → ℕ → Call
 
--- what a call gives back: the answer in the paper's terms, and what the lent list holds then (of a call with no list: nothing)
+-- what a call gives back: the answer in the paper's terms, and the candidates that it lists
 pub record Reply : Type 0 where
+  pub answer : Answer
+  pub candidates : List ℕ
+
+abbrev pub plain : Answer → Reply
+plain a = record { answer = a; candidates = [] }
+
+-- what the caller of a write has then: the answer, and the lent list with the candidates in its first places
+pub record Outcome : Type 0 where
   pub answer : Answer
   pub list : List ℕ
 
-abbrev pub plain : Answer → Reply
-plain a = record { answer = a; list = [] }
+abbrev pub outcome : Reply → List ℕ → Outcome
+outcome r lent = record { answer = r .answer; list = laid (r .candidates) lent }
+
+-- the number of the candidates is the answer
+abbrev pub listing : List ℕ → Reply
+listing candidates = record { answer = done (length candidates ∷ []); candidates = candidates }
+
+-- a write that is refused beyond the table, at the lowest such INTID, lists none
+abbrev pub listingUnless : List ℕ → List ℕ → Reply
+listingUnless [] candidates = listing candidates
+listingUnless (i ∷ is) candidates = plain (refused 1 (i ∷ []))
 
 -- ---- creation
 
@@ -82,7 +100,7 @@ module _ (c : ControllerConfig) (n : ℕ) where
   abbrev pub slotAfter : Call → ℕ → Slot → Slot
   slotAfter (create d m) i s = s
   slotAfter (read offset w) i s = s
-  slotAfter (write offset w v list) i s = writtenAt (writeAccess (length list) n (c .«distributor_size») offset w) v i s
+  slotAfter (write offset w v places) i s = writtenAt (writeAccess places n (c .«distributor_size») offset w) v i s
   slotAfter isSwitchedOn i s = s
   slotAfter (rollback on) i s = s
   slotAfter (change h raw) i s = changedAt h raw i s
@@ -101,7 +119,7 @@ module _ (c : ControllerConfig) (n : ℕ) where
   abbrev pub switchAfter : Call → Bool → Bool
   switchAfter (create d m) on = on
   switchAfter (read offset w) on = on
-  switchAfter (write offset w v list) on = switched (writeAccess (length list) n (c .«distributor_size») offset w) v on
+  switchAfter (write offset w v places) on = switched (writeAccess places n (c .«distributor_size») offset w) v on
   switchAfter isSwitchedOn on = on
   switchAfter (rollback to) on = to
   switchAfter (change h raw) on = on
@@ -134,33 +152,25 @@ module _ (d : Distributor) where
       (done (bankValue (explicit (d .config .«spi_ownership»)) (size d) b lo m (d .slots) ∷ [])))
   readReply (To Reserved) = plain (done (0 ∷ []))
 
-  -- the candidates stand in the list's first places and their number is the answer; a refused write lists none
-  abbrev pub listing : List ℕ → List ℕ → Reply
-  listing candidates list = record { answer = done (length candidates ∷ []); list = laid candidates list }
-
-  abbrev pub listingUnless : List ℕ → List ℕ → List ℕ → Reply
-  listingUnless [] candidates list = listing candidates list
-  listingUnless (i ∷ is) candidates list = record { answer = refused 1 (i ∷ []); list = list }
-
   -- turned on, the switch lists every deliverable SPI, owned or not, by the base's rule
   abbrev pub switchCandidates : ℕ → List ℕ
   switchCandidates v = cond (switchBit v) (passing (deliverableAt (d .slots)) 32 (size d)) []
 
-  abbrev pub writeReply : Access → ℕ → List ℕ → Reply
-  writeReply (Refused f) v list = record { answer = toldRefusal f; list = list }
-  writeReply (To (Identification k)) v list = listing [] list
-  writeReply (To Ctlr) v list = listing (switchCandidates v) list
-  writeReply (To Typer) v list = listing [] list
-  writeReply (To Iidr) v list = listing [] list
-  writeReply (To (Fields b lo m)) v list =
+  abbrev pub writeReply : Access → ℕ → Reply
+  writeReply (Refused f) v = plain (toldRefusal f)
+  writeReply (To (Identification k)) v = listing []
+  writeReply (To Ctlr) v = listing (switchCandidates v)
+  writeReply (To Typer) v = listing []
+  writeReply (To Iidr) v = listing []
+  writeReply (To (Fields b lo m)) v =
       listingUnless (writeBeyond (explicit (d .config .«spi_ownership»)) (size d) b v lo m)
-      (bankCandidates (explicit (d .config .«spi_ownership»)) (size d) b v lo m (d .slots)) list
-  writeReply (To Reserved) v list = listing [] list
+      (bankCandidates (explicit (d .config .«spi_ownership»)) (size d) b v lo m (d .slots))
+  writeReply (To Reserved) v = listing []
 
 unfoldable pub reply : Call → Distributor → Reply
 reply (create c n) d = plain (createAnswer n)
 reply (read offset w) d = readReply d (decode Reading (d .config .«distributor_size») offset w)
-reply (write offset w v list) d = writeReply d (writeAccess (length list) (size d) (d .config .«distributor_size») offset w) v list
+reply (write offset w v places) d = writeReply d (writeAccess places (size d) (d .config .«distributor_size») offset w) v
 reply isSwitchedOn d = plain (done (bit (d .switch) ∷ []))
 reply (rollback on) d = plain (done [])
 reply (change h raw) d = onSpi d raw (changeAnswer h)

@@ -1,4 +1,4 @@
--- What every reply keeps to: the order of the refusals, and what becomes of the lent list.
+-- What every reply keeps to: the order of the refusals, and how many candidates there are.
 use Prim.Native.Nat.{ℕ, _+_, _≤_, _<_}
 use mathlib.Core.Path.{_≡_}
 use mathlib.Core.Bool.{Bool, true, false, cond}
@@ -7,9 +7,9 @@ use native.Mathlib.Omega.{arith}
 use borrow.Author.Tests.{lt-ltb, le-ltb}
 use lib.Dec.{ltb}
 use lib.ListN.{length}
-use Rattle.theory.specs.Lists.{laid, passing}
+use Rattle.theory.specs.Lists.{passing}
 use Rattle.theory.specs.ListLaws.{passing-few, passing-most}
-use Rattle.identifiers.specs.Answer.{done, refused, numberOf, carriedBy}
+use Rattle.identifiers.specs.Answer.{refused, numberOf, carriedBy}
 use Rattle.identifiers.specs.declared.error.Refusal.the-variants.{InvalidWidth}
 use Rattle.registers.specs.declared.register.AccessWidth.{AccessWidth}
 use Rattle.bank.specs.declared.bank.Bank.{Bank}
@@ -23,7 +23,7 @@ use Rattle.controller.specs.Modes.{explicit}
 use Rattle.controller.specs.Identity.{switchBit}
 use Rattle.slot.specs.BankRule.{candidate, bankCandidates, writeBeyond}
 use Rattle.slot.specs.BankRuleLaws.{candidate-in}
-use Rattle.model.specs.Calls.{Distributor, read, write, Reply, plain, size, deliverableAt, switchCandidates, listingUnless, writeReply, reply}
+use Rattle.model.specs.Calls.{Distributor, read, write, Reply, plain, size, deliverableAt, listing, listingUnless, switchCandidates, writeReply, reply}
 
 module _ (d : Distributor) (offset : ℕ) (w : AccessWidth) where
   -- a read tests 3 first
@@ -36,27 +36,26 @@ module _ (d : Distributor) (offset : ℕ) (w : AccessWidth) where
   unfolding reply decode
   read-4 h e = rw (h, e)
 
-  module _ (v : ℕ) (list : List ℕ) where
+  module _ (v places : ℕ) where
     -- a write tests 5 first, whatever else is wrong with it
-    pub write-5 : length list < size d → reply (write offset w v list) d ≡ record { answer = refused 5 []; list = list }
+    pub write-5 : places < size d → reply (write offset w v places) d ≡ plain (refused 5 [])
     unfolding reply
-    write-5 h = let e : ltb (length list) (size d) ≡ true = lt-ltb _ _ h in rw e
+    write-5 h = let e : ltb places (size d) ≡ true = lt-ltb _ _ h in rw e
 
     -- then 3
-    pub write-3 : size d ≤ length list → legal (d .config .«distributor_size») offset w ≡ false → reply (write offset w v list) d ≡ record { answer = refused 3 []; list = list }
+    pub write-3 : size d ≤ places → legal (d .config .«distributor_size») offset w ≡ false → reply (write offset w v places) d ≡ plain (refused 3 [])
     unfolding reply decode
-    write-3 h l = let e : ltb (length list) (size d) ≡ false = le-ltb _ _ h in rw (e, l)
+    write-3 h l = let e : ltb places (size d) ≡ false = le-ltb _ _ h in rw (e, l)
 
     -- then 4
-    pub write-4 : size d ≤ length list → legal (d .config .«distributor_size») offset w ≡ true → lookup Writing map offset w ≡ Refused InvalidWidth → reply (write offset w v list) d ≡ record { answer = refused 4 []; list = list }
+    pub write-4 : size d ≤ places → legal (d .config .«distributor_size») offset w ≡ true → lookup Writing map offset w ≡ Refused InvalidWidth → reply (write offset w v places) d ≡ plain (refused 4 [])
     unfolding reply decode
-    write-4 h l m = let e : ltb (length list) (size d) ≡ false = le-ltb _ _ h in rw (e, l, m)
+    write-4 h l m = let e : ltb places (size d) ≡ false = le-ltb _ _ h in rw (e, l, m)
 
-    -- what is left of a write once its candidates are known: refused with the list untouched, or done, with the candidates in the
-    -- first places and their number, at most as many as there are SPIs
-    pub data Kept : Reply → Type 0 where
-      turnedDown : (n : ℕ) (c : List ℕ) → Kept (record { answer = refused n c; list = list })
-      listed : (candidates : List ℕ) → length candidates ≤ size d → Kept (record { answer = done (length candidates ∷ []); list = laid candidates list })
+    -- a write is refused and lists none, or done and tells how many it lists: at most as many as there are SPIs
+    pub data Lists : Reply → Type 0 where
+      turnedDown : (n : ℕ) (c : List ℕ) → Lists (plain (refused n c))
+      listed : (candidates : List ℕ) → length candidates ≤ size d → Lists (listing candidates)
 
     bank-few : (b : Bank) (lo m : ℕ) → length (bankCandidates (explicit (d .config .«spi_ownership»)) (size d) b v lo m (d .slots)) ≤ size d
     bank-few b lo m =
@@ -70,19 +69,19 @@ module _ (d : Distributor) (offset : ℕ) (w : AccessWidth) where
         go true = passing-most (deliverableAt (d .slots)) 32 (size d)
         go false = omega arith
 
-    kept-write : (a : Access) → Kept (writeReply d a v list)
-    kept-write (Refused f) = turnedDown (numberOf f) (carriedBy f)
-    kept-write (To (Identification k)) = listed [] (omega arith)
-    kept-write (To Ctlr) = listed (switchCandidates d v) switch-few
-    kept-write (To Typer) = listed [] (omega arith)
-    kept-write (To Iidr) = listed [] (omega arith)
-    kept-write (To (Fields b lo m)) = go (writeBeyond (explicit (d .config .«spi_ownership»)) (size d) b v lo m)
+    access-lists : (a : Access) → Lists (writeReply d a v)
+    access-lists (Refused f) = turnedDown (numberOf f) (carriedBy f)
+    access-lists (To (Identification k)) = listed [] (omega arith)
+    access-lists (To Ctlr) = listed (switchCandidates d v) switch-few
+    access-lists (To Typer) = listed [] (omega arith)
+    access-lists (To Iidr) = listed [] (omega arith)
+    access-lists (To (Fields b lo m)) = go (writeBeyond (explicit (d .config .«spi_ownership»)) (size d) b v lo m)
       where
-        go : (l : List ℕ) → Kept (listingUnless d l (bankCandidates (explicit (d .config .«spi_ownership»)) (size d) b v lo m (d .slots)) list)
+        go : (l : List ℕ) → Lists (listingUnless l (bankCandidates (explicit (d .config .«spi_ownership»)) (size d) b v lo m (d .slots)))
         go [] = listed (bankCandidates (explicit (d .config .«spi_ownership»)) (size d) b v lo m (d .slots)) (bank-few b lo m)
         go (i ∷ is) = turnedDown 1 (i ∷ [])
-    kept-write (To Reserved) = listed [] (omega arith)
+    access-lists (To Reserved) = listed [] (omega arith)
 
-    pub list-kept : Kept (reply (write offset w v list) d)
+    pub write-lists : Lists (reply (write offset w v places) d)
     unfolding reply
-    list-kept = kept-write (writeAccess (length list) (size d) (d .config .«distributor_size») offset w)
+    write-lists = access-lists (writeAccess places (size d) (d .config .«distributor_size») offset w)

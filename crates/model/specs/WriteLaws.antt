@@ -7,7 +7,6 @@ use native.Mathlib.Nat.{mul-suc, mul-le-mul-left}
 use native.Mathlib.Omega.{arith}
 use borrow.Author.Tests.{leb-true, ltb-true}
 use lib.Dec.{leb, ltb, eqb}
-use lib.ListN.{length}
 use lib.Pow as pow
 use Rattle.theory.specs.Bools.{both}
 use Rattle.theory.specs.Lists.{mapAt}
@@ -77,23 +76,23 @@ module _ (e : Bool) (n : ℕ) (b : Bank) (k v lo m : ℕ) (fits : bitsOf b * m �
       passing-agree (candidate e n b (v % 2 ^ k) lo m slots) (candidate e n b v lo m slots) lo m
       (λ i p q. let f = field-cut b k v lo i m fits p q in rw f)
 
-module _ (d : Distributor) (offset : ℕ) (w : AccessWidth) (v : ℕ) (list : List ℕ) where
+module _ (d : Distributor) (offset : ℕ) (w : AccessWidth) (v places : ℕ) where
   abbrev here : Access
-  here = writeAccess (length list) (size d) (d .config .«distributor_size») offset w
+  here = writeAccess places (size d) (d .config .«distributor_size») offset w
 
   fits-width : (b : Bank) (lo m : ℕ) → here ≡ To (Fields b lo m) → bitsOf b * m ≤ 8 * bytesOf w
-  fits-width b lo m e = go (ltb (length list) (size d)) e
+  fits-width b lo m e = go (ltb places (size d)) e
     where
       go : (t : Bool) → cond t (Refused ShortList) (decode Writing (d .config .«distributor_size») offset w) ≡ To (Fields b lo m) → bitsOf b * m ≤ 8 * bytesOf w
       go true f = let z : _≡_ {A = ℕ} 0 1 = cc in absurd (omega arith)
       go false f = decode-covers Writing (d .config .«distributor_size») offset w b lo m f
 
-  -- the answer, and what the list holds
-  pub cut-reply : reply (write offset w (cut w v) list) d ≡ reply (write offset w v list) d
+  -- the answer, and the candidates
+  pub cut-reply : reply (write offset w (cut w v) places) d ≡ reply (write offset w v places) d
   unfolding reply
   cut-reply = go here refl
     where
-      go : (a : Access) → here ≡ a → writeReply d a (cut w v) list ≡ writeReply d a v list
+      go : (a : Access) → here ≡ a → writeReply d a (cut w v) ≡ writeReply d a v
       go (Refused f) e = refl
       go (To (Identification k)) e = refl
       go (To Ctlr) e = let s = switch-cut w v in rw s
@@ -110,7 +109,7 @@ module _ (d : Distributor) (offset : ℕ) (w : AccessWidth) (v : ℕ) (list : Li
   written a x = record { config = d .config; switch = switched (d .config) (size d) a x (d .switch); count = d .count; slots = mapAt (λ p. writtenAt (d .config) (size d) a x (32 + p)) (d .slots) }
 
   -- the whole next state
-  pub cut-step : step (write offset w (cut w v) list) d ≡ step (write offset w v list) d
+  pub cut-step : step (write offset w (cut w v) places) d ≡ step (write offset w v places) d
   unfolding step
   cut-step = go here refl
     where

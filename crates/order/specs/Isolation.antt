@@ -3,7 +3,6 @@ use Prim.Native.Nat.{ℕ, _+_, _-_}
 use mathlib.Core.Path.{_≡_, refl, sym, ap, _∙_}
 use mathlib.Core.Bool.{Bool, true, false, not, _&&_, _||_, cond, true≢false}
 use mathlib.Core.List.{List, [], _∷_}
-use lib.ListN.{length}
 use Rattle.theory.specs.MapAtLaws.{relates-mapAt}
 use Rattle.identifiers.specs.Answer.{done, unless}
 use Rattle.place.specs.Table.{tableSize, inTable}
@@ -66,13 +65,13 @@ access-spares c n (To (Fields b lo m)) v i s = bank-spares _ n b v lo m i s
 access-spares c n (To Reserved) v i s = still _ s
 
 -- a guest write changes no claim, no fixed mark and no unowned record
-pub guest-write-spares : (d : Distributor) (offset : ℕ) (w : AccessWidth) (v : ℕ) (list : List ℕ) (i : ℕ)
-    → Spared (explicit (d .config .«spi_ownership»)) (slotOf (d .slots) i) (slotOf (step (write offset w v list) d .slots) i)
+pub guest-write-spares : (d : Distributor) (offset : ℕ) (w : AccessWidth) (v places i : ℕ)
+    → Spared (explicit (d .config .«spi_ownership»)) (slotOf (d .slots) i) (slotOf (step (write offset w v places) d .slots) i)
 unfolding step
-guest-write-spares d offset w v list i =
-    relates-mapAt (Spared (explicit (d .config .«spi_ownership»))) (λ p. slotAfter (d .config) (size d) (write offset w v list) (32 + p)) (i - 32) (d .slots) noSlot
+guest-write-spares d offset w v places i =
+    relates-mapAt (Spared (explicit (d .config .«spi_ownership»))) (λ p. slotAfter (d .config) (size d) (write offset w v places) (32 + p)) (i - 32) (d .slots) noSlot
     (still _ noSlot)
-    (access-spares (d .config) (size d) (writeAccess (length list) (size d) (d .config .«distributor_size») offset w) v (32 + (i - 32)) (slotOf (d .slots) i))
+    (access-spares (d .config) (size d) (writeAccess places (size d) (d .config .«distributor_size») offset w) v (32 + (i - 32)) (slotOf (d .slots) i))
 
 -- ---- a guest read
 

@@ -2,7 +2,6 @@
 use Prim.Native.Nat.{ℕ}
 use mathlib.Core.Bool.{Bool, true, false, _&&_}
 use lib.Dec.{eqb}
-use lib.ListN.{length}
 use Rattle.place.specs.Table.{inTable}
 use Rattle.controller.specs.declared.controller.ControllerConfig.{ControllerConfig}
 use Rattle.controller.specs.Identity.{switchBit}
@@ -60,7 +59,7 @@ module _ (c : ControllerConfig) (n : ℕ) where
   unfoldable pub names : Call → Name → Bool
   names (create d k) m = false
   names (read offset w) m = readNames n (decode Reading (c .«distributor_size») offset w) m
-  names (write offset w v list) m = writeNames n (writeAccess (length list) n (c .«distributor_size») offset w) v m
+  names (write offset w v places) m = writeNames n (writeAccess places n (c .«distributor_size») offset w) v m
   names isSwitchedOn m = switchNames m
   names (rollback on) m = switchNames m
   names (change h raw) m = hostNames n raw m

@@ -8,7 +8,7 @@ use mathlib.Core.Option.{Option, none, some, Option·map}
 use native.Mathlib.Omega.{arith}
 use borrow.Author.Tests.{leb-true, le-leb}
 use lib.Dec.{leb}
-use lib.ListN.{length, getElem?}
+use lib.ListN.{getElem?}
 use Rattle.theory.specs.Elements.{at-getD, at-all, at-mapAt}
 use Rattle.controller.specs.declared.controller.ControllerConfig.{ControllerConfig}
 use Rattle.slot.specs.declared.slot.Slot.{Slot}
@@ -65,7 +65,7 @@ module _ (c : ControllerConfig) (n : ℕ) where
   unfolding names
   switch-kept (create d m) on e = refl
   switch-kept (read offset w) on e = refl
-  switch-kept (write offset w v list) on e = write-switch (writeAccess (length list) n (c .«distributor_size») offset w) v on e
+  switch-kept (write offset w v places) on e = write-switch (writeAccess places n (c .«distributor_size») offset w) v on e
   switch-kept isSwitchedOn on e = refl
   switch-kept (rollback to) on e = absurd (true≢false e)
   switch-kept (change h raw) on e = refl
@@ -86,7 +86,7 @@ module _ (c : ControllerConfig) (n : ℕ) where
   unfolding names
   slot-kept (create d m) i s e = refl
   slot-kept (read offset w) i s e = refl
-  slot-kept (write offset w v list) i s e = write-slot (writeAccess (length list) n (c .«distributor_size») offset w) v i s e
+  slot-kept (write offset w v places) i s e = write-slot (writeAccess places n (c .«distributor_size») offset w) v i s e
   slot-kept isSwitchedOn i s e = refl
   slot-kept (rollback to) i s e = refl
   slot-kept (change h raw) i s e = rw e

@@ -7,7 +7,7 @@ use mathlib.Core.Option.{Option, none, some, Option·map}
 use native.Mathlib.Omega.{arith}
 use borrow.Author.Tests.{eqb-true}
 use lib.Dec.{eqb}
-use lib.ListN.{length, getD, getElem?}
+use lib.ListN.{getD, getElem?}
 use Rattle.theory.specs.Bools.{both}
 use Rattle.theory.specs.Elements.{at-all, at-mapAt, at-holds}
 use Rattle.identifiers.specs.Answer.{done, refused}
@@ -30,7 +30,7 @@ use Rattle.model.specs.Calls.{Distributor, Call, create, read, write, isSwitche
 abbrev pub ranBeyond : Call → ℕ → Bool
 ranBeyond (create d m) r = false
 ranBeyond (read offset w) r = false
-ranBeyond (write offset w v list) r = eqb r 1
+ranBeyond (write offset w v places) r = eqb r 1
 ranBeyond isSwitchedOn r = false
 ranBeyond (rollback on) r = false
 ranBeyond (change h raw) r = false
@@ -40,7 +40,7 @@ ranBeyond (ask q raw) r = false
 abbrev pub onlyAsks : Call → Bool
 onlyAsks (create d m) = false
 onlyAsks (read offset w) = true
-onlyAsks (write offset w v list) = false
+onlyAsks (write offset w v places) = false
 onlyAsks isSwitchedOn = true
 onlyAsks (rollback on) = false
 onlyAsks (change h raw) = false
@@ -68,7 +68,7 @@ module _ (d : Distributor) where
   pub asking-still : (k : Call) → onlyAsks k ≡ true → step k d ≡ d
   asking-still (create c m) e = absurd (true≢false (sym e))
   asking-still (read offset w) e = still (read offset w) refl (λ p s at. refl)
-  asking-still (write offset w v list) e = absurd (true≢false (sym e))
+  asking-still (write offset w v places) e = absurd (true≢false (sym e))
   asking-still isSwitchedOn e = still isSwitchedOn refl (λ p s at. refl)
   asking-still (rollback on) e = absurd (true≢false (sym e))
   asking-still (change h raw) e = absurd (true≢false (sym e))
@@ -106,27 +106,27 @@ module _ (d : Distributor) where
             change-still h s (ap (changeAnswer h) (sym slot) ∙ said)
         go false t = refl
 
-    write-still : (a : Access) (v : ℕ) (list : List ℕ) → writeReply d a v list .answer ≡ refused r ws → eqb r 1 ≡ false
+    write-still : (a : Access) (v : ℕ) → writeReply d a v .answer ≡ refused r ws → eqb r 1 ≡ false
         → (switched (d .config) (size d) a v (d .switch) ≡ d .switch) × ((i : ℕ) (s : Slot) → writtenAt (d .config) (size d) a v i s ≡ s)
-    write-still (Refused f) v list e n = (refl, λ i s. refl)
-    write-still (To (Identification k)) v list e n = never _ ws r e
-    write-still (To Ctlr) v list e n = never _ ws r e
-    write-still (To Typer) v list e n = never _ ws r e
-    write-still (To Iidr) v list e n = never _ ws r e
-    write-still (To (Fields b lo m)) v list e n = go (writeBeyond (explicit (d .config .«spi_ownership»)) (size d) b v lo m) e
+    write-still (Refused f) v e n = (refl, λ i s. refl)
+    write-still (To (Identification k)) v e n = never _ ws r e
+    write-still (To Ctlr) v e n = never _ ws r e
+    write-still (To Typer) v e n = never _ ws r e
+    write-still (To Iidr) v e n = never _ ws r e
+    write-still (To (Fields b lo m)) v e n = go (writeBeyond (explicit (d .config .«spi_ownership»)) (size d) b v lo m) e
       where
-        go : {A : Type 0} (l : List ℕ) → listingUnless d l (bankCandidates (explicit (d .config .«spi_ownership»)) (size d) b v lo m (d .slots)) list .answer ≡ refused r ws → A
+        go : {A : Type 0} (l : List ℕ) → listingUnless l (bankCandidates (explicit (d .config .«spi_ownership»)) (size d) b v lo m (d .slots)) .answer ≡ refused r ws → A
         go [] h = never _ ws r h
         go (i ∷ is) h = let z : 1 ≡ r = cc in absurd (true≢false (ap (λ (q : ℕ). eqb q 1) z ∙ n))
-    write-still (To Reserved) v list e n = never _ ws r e
+    write-still (To Reserved) v e n = never _ ws r e
 
     pub refused-still : (k : Call) → reply k d .answer ≡ refused r ws → ranBeyond k r ≡ false → step k d ≡ d
     unfolding reply
     refused-still (create c m) e n = still (create c m) refl (λ p s at. refl)
     refused-still (read offset w) e n = still (read offset w) refl (λ p s at. refl)
-    refused-still (write offset w v list) e n =
-        let (on, kept) = write-still (writeAccess (length list) (size d) (d .config .«distributor_size») offset w) v list e n in
-        still (write offset w v list) on (λ p s at. kept (32 + p) s)
+    refused-still (write offset w v places) e n =
+        let (on, kept) = write-still (writeAccess places (size d) (d .config .«distributor_size») offset w) v e n in
+        still (write offset w v places) on (λ p s at. kept (32 + p) s)
     refused-still isSwitchedOn e n = never _ ws r e
     refused-still (rollback on) e n = never _ ws r e
     refused-still (change h raw) e n = still (change h raw) refl (host-still h raw e)

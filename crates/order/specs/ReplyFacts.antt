@@ -5,7 +5,6 @@ use mathlib.Core.Bool.{Bool, true, false, _&&_, cond}
 use mathlib.Core.List.{List, [], _∷_}
 use borrow.Author.Tests.{le-leb, lt-ltb, eq-eqb}
 use lib.Dec.{leb, eqb}
-use lib.ListN.{length}
 use Rattle.theory.specs.Bools.{both}
 use Rattle.theory.specs.Lists.{passing}
 use Rattle.theory.specs.ListLaws.{passing-agree}
@@ -101,14 +100,14 @@ module _ (c : ControllerConfig) (count : ℕ) (on on′ : Bool) (l l′ : List S
       go true h = deliverable-same n l l′ h
       go false h = refl
 
-  write-rests : (a : Access) (v : ℕ) (list : List ℕ) → Same n l l′ (λ i. writeNames n a v (spi i)) → writeReply d a v list ≡ writeReply d′ a v list
-  write-rests (Refused f) v list h = refl
-  write-rests (To (Identification k)) v list h = refl
-  write-rests (To Ctlr) v list h = ap (λ (cs : List ℕ). listing d cs list) (switch-rests v h)
-  write-rests (To Typer) v list h = refl
-  write-rests (To Iidr) v list h = refl
-  write-rests (To (Fields b lo m)) v list h = ap (λ (cs : List ℕ). listingUnless d (writeBeyond e n b v lo m) cs list) (candidates-same n l l′ e b v lo m h)
-  write-rests (To Reserved) v list h = refl
+  write-rests : (a : Access) (v : ℕ) → Same n l l′ (λ i. writeNames n a v (spi i)) → writeReply d a v ≡ writeReply d′ a v
+  write-rests (Refused f) v h = refl
+  write-rests (To (Identification k)) v h = refl
+  write-rests (To Ctlr) v h = ap listing (switch-rests v h)
+  write-rests (To Typer) v h = refl
+  write-rests (To Iidr) v h = refl
+  write-rests (To (Fields b lo m)) v h = ap (listingUnless (writeBeyond e n b v lo m)) (candidates-same n l l′ e b v lo m h)
+  write-rests (To Reserved) v h = refl
 
   host-rests : (raw : ℕ) (f : Slot → Answer) → Same n l l′ (λ i. inTable n i && eqb i raw) → onSpi d raw f ≡ onSpi d′ raw f
   host-rests raw f h = go (inTable n raw) refl
@@ -121,7 +120,7 @@ module _ (c : ControllerConfig) (count : ℕ) (on on′ : Bool) (l l′ : List S
   unfolding names reply
   reply-rests (create x m) s h = refl
   reply-rests (read offset w) s h = read-rests (decode Reading (c .«distributor_size») offset w) s h
-  reply-rests (write offset w v list) s h = write-rests (writeAccess (length list) n (c .«distributor_size») offset w) v list h
+  reply-rests (write offset w v places) s h = write-rests (writeAccess places n (c .«distributor_size») offset w) v h
   reply-rests isSwitchedOn s h = ap (λ (b : Bool). plain (done (bit b ∷ []))) (s refl)
   reply-rests (rollback to) s h = refl
   reply-rests (change x raw) s h = host-rests raw (changeAnswer x) h

@@ -1,12 +1,12 @@
 -- What stands at a place of a list, and nothing past its end.
-use Prim.Native.Nat.{ℕ, zero, suc, _+_, _<_, suc-le-suc}
+use Prim.Native.Nat.{ℕ, zero, suc, _+_, _≤_, _<_, suc-le-suc}
 use mathlib.Core.Path.{_≡_, refl, ap}
-use mathlib.Core.List.{List, [], _∷_}
+use mathlib.Core.List.{List, [], _∷_, _++_}
 use mathlib.Core.Option.{Option, some, Option·map, Option·none-ne-some, Option·some-ne-none, Option·some-injective}
-use native.Mathlib.Nat.{zero-lt-suc}
+use native.Mathlib.Nat.{zero-lt-suc, le-of-suc-le-suc}
 use native.Mathlib.Omega.{arith}
 use lib.ListN.{length, getD, getElem?}
-use Rattle.theory.specs.Lists.{mapFrom, mapAt, tabulate}
+use Rattle.theory.specs.Lists.{mapFrom, mapAt, tabulate, laid}
 
 module _ {A : Type 0} where
   pub at-some : (l : List A) (i : ℕ) (x : A) → getElem? l i ≡ some x → i < length l
@@ -52,3 +52,18 @@ module _ {A : Type 0} where
   element-of-tabulate f k zero i x e = absurd (Option·none-ne-some x e)
   element-of-tabulate f k (suc n) zero x e = let z : k + 0 ≡ k = omega arith in rw z (Option·some-injective (f k) x e)
   element-of-tabulate f k (suc n) (suc i) x e = let z : k + suc i ≡ suc k + i = omega arith in rw z (element-of-tabulate f (suc k) n i x e)
+
+  append-first : (xs ys : List A) (i : ℕ) → i < length xs → getElem? (xs ++ ys) i ≡ getElem? xs i
+  append-first [] ys i h = absurd (omega arith)
+  append-first (x ∷ xs) ys zero h = refl
+  append-first (x ∷ xs) ys (suc i) h = append-first xs ys i (le-of-suc-le-suc h)
+
+  -- a list with the elements of xs in its first places: those places hold them, the others what they held
+  pub laid-first : (xs l : List A) (i : ℕ) → i < length xs → getElem? (laid xs l) i ≡ getElem? xs i
+  laid-first xs l i h = append-first xs _ i h
+
+  pub laid-past : (xs l : List A) (i : ℕ) → length xs ≤ length l → length xs ≤ i → getElem? (laid xs l) i ≡ getElem? l i
+  laid-past [] l i f h = refl
+  laid-past (x ∷ xs) l zero f h = absurd (omega arith)
+  laid-past (x ∷ xs) [] (suc i) f h = absurd (omega arith)
+  laid-past (x ∷ xs) (y ∷ ys) (suc i) f h = laid-past xs ys i (le-of-suc-le-suc f) (le-of-suc-le-suc h)

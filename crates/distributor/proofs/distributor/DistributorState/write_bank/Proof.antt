@@ -47,7 +47,7 @@ returns c =
     let x = fb .write-beyond .result in
     let e : toldBeyond x ≡ firstOf l = fb .write-beyond .ensures ∙ (rw (ex .is-explicit .ensures, sz .size .ensures)) in
     let w = wf .write-fields .ensures in
-    (ap modelOf (w .0), bank-told x l t (a .lo) (a .m) (now (a .list)) _ (wf .write-fields .result .count) (modelOf (a .self)) _ (ls .lists .result) e (ls .lists .ensures) (w .1) (c .write-answer .ensures))
+    (ap modelOf (w .0), bank-told x l t (a .lo) (a .m) (now (a .list)) _ (wf .write-fields .result .count) _ (ls .lists .result) e (ls .lists .ensures) (w .1) (c .write-answer .ensures))
 
 pub write-bank-spec : {M : Type 1} → statement M
 write-bank-spec =
