@@ -1,4 +1,5 @@
 pub mod Calls
 pub mod Replies
+pub mod Typed
 pub mod ReadLaws
 pub mod WriteLaws

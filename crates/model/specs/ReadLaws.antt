@@ -24,15 +24,11 @@ use Rattle.ownership.specs.Owned.{owned}
 use Rattle.slot.specs.BankRule.{slotOf, shownAt, bankValue, readBeyond}
 use Rattle.controller.specs.Identity.{componentId, ctlrValue, typerValue}
 use Rattle.model.specs.Calls.{Distributor, read, size, reply, readReply}
+use Rattle.model.specs.Typed.{Typed}
 use Rattle.theory.specs.Bools.{bit-fits}
 use Rattle.bank.specs.FieldLaws.{packed-fits, pow-pow, shown-fits}
 use Rattle.controller.specs.IdentityLaws.{id-fits}
 use Rattle.decoding.specs.WidthLaws.{decode-sound}
-
--- what the code's types say of a state: a priority and an affinity level are bytes
-pub record Typed (d : Distributor) : Type 0 where
-  pub priorities : (i : ℕ) → slotOf (d .slots) i .interrupt .priority .0 < 256
-  pub routes : (i : ℕ) → Bytes (slotOf (d .slots) i .interrupt .route)
 
 module _ (d : Distributor) (ok : Typed d) where
   shown-at-fits : (b : Bank) (i : ℕ) → shownAt (explicit (d .config .«spi_ownership»)) (size d) b (d .slots) i < 2 ^ bitsOf b
@@ -42,7 +38,7 @@ module _ (d : Distributor) (ok : Typed d) where
       positive k = pow-pos k
 
       go : (t o : Bool) → cond t (cond o (shown b (slotOf (d .slots) i .interrupt)) 0) 0 < 2 ^ bitsOf b
-      go true true = shown-fits b _ (ok .priorities i) (ok .routes i)
+      go true true = shown-fits b _ (ok i .priority) (ok i .route)
       go true false = positive (bitsOf b)
       go false o = positive (bitsOf b)
 

@@ -1,6 +1,6 @@
 -- What a crate above may know of a record: two tables of what each operation makes of it, and what is read back.
 use Prim.Native.Nat.{ℕ}
-use mathlib.Core.Path.{_≡_, refl}
+use mathlib.Core.Path.{_≡_, refl, subst⁻¹}
 use mathlib.Core.Bool.{Bool, true, false, not, _&&_, _||_, or-true}
 use Rattle.identifiers.specs.declared.types.IntId.{IntId}
 use Rattle.attributes.specs.declared.attributes.GicAffinity.{GicAffinity}
@@ -133,6 +133,34 @@ intid-kept (SetPriority p) r = refl
 intid-kept (SetTrigger t) r = refl
 intid-kept (SetRoute a) r = refl
 intid-kept ClearRoute r = refl
+
+-- what holds of the settings holds after every operation, if it does after the four that set one. `Ok` is what is known of the operation
+pub settings-hold : (P : Settings → Type 0) (Ok : Operation → Type 0) (r : InterruptRecord) → P (settingsOf r)
+    → ((p : Priority) → Ok (SetPriority p) → P (settingsAfter (SetPriority p) r))
+    → ((t : TriggerMode) → Ok (SetTrigger t) → P (settingsAfter (SetTrigger t) r))
+    → ((a : GicAffinity) → Ok (SetRoute a) → P (settingsAfter (SetRoute a) r))
+    → (Ok ClearRoute → P (settingsAfter ClearRoute r))
+    → (o : Operation) → Ok o → P (settingsOf (applied o r))
+settings-hold P Ok r h priority trigger route unroute o ok = subst⁻¹ P (settings-after o r) (go o ok)
+  where
+    go : (x : Operation) → Ok x → P (settingsAfter x r)
+    go (SetEnabled on) k = h
+    go (SetPending on) k = h
+    go (SetActive on) k = h
+    go (SetState s) k = h
+    go ClearDeliveryState k = h
+    go MarkInflight k = h
+    go CancelInflight k = h
+    go FinishInflight k = h
+    go (DeactivateInflight p) k = h
+    go (SetLevel true) k = h
+    go (SetLevel false) k = h
+    go Pulse k = h
+    go Complete k = h
+    go (SetPriority p) k = priority p k
+    go (SetTrigger t) k = trigger t k
+    go (SetRoute a) k = route a k
+    go ClearRoute k = unroute k
 
 -- a record is its INTID, its flags and its settings
 pub record-path : (r s : InterruptRecord) → r .intid ≡ s .intid → r .life ≡ s .life → settingsOf r ≡ settingsOf s → r ≡ s

@@ -11,11 +11,10 @@ use Rattle.interrupt.specs.declared.interrupt.InterruptRecord.{InterruptRecord}
 use Rattle.interrupt.specs.declared.interrupt.Route.{Route}
 use Rattle.interrupt.specs.declared.interrupt.TargetMask.{TargetMask}
 use Rattle.operation.specs.declared.operation.Operation.{Operation}
-use Rattle.operation.specs.declared.operation.Operation.the-variants.{SetEnabled, SetPending, SetActive, SetState, ClearDeliveryState, MarkInflight, CancelInflight, FinishInflight, DeactivateInflight, SetPriority, SetTrigger, SetRoute, ClearRoute, SetLevel, Pulse, Complete}
 use Rattle.attributes.specs.Affinity.{affinity}
 use Rattle.interrupt.specs.Records.{fresh, synchronizedWith, maskTo, routeIn, maskIn}
 use Rattle.operation.specs.Operation.{applied}
-use Rattle.operation.specs.Laws.{Settings, settingsOf, settingsAfter, settings-after, fresh-settings, synchronized-settings, mask-settings, record-path}
+use Rattle.operation.specs.Laws.{Settings, settingsOf, settings-hold, fresh-settings, synchronized-settings, mask-settings, record-path}
 
 abbrev pub Tidy : Settings → Type 0
 Tidy s = (s .2 ≡ false → s .3 ≡ affinity 0 0 0 0) × (s .4 ≡ false → s .5 ≡ 0) × ((s .2 && s .4) ≡ false)
@@ -23,27 +22,12 @@ Tidy s = (s .2 ≡ false → s .3 ≡ affinity 0 0 0 0) × (s .4 ≡ false → s
 pub tidy-fresh : (i : IntId) (t : TriggerMode) → Tidy (settingsOf (fresh i t))
 tidy-fresh i t = subst⁻¹ Tidy (fresh-settings i t) ((λ e. refl), (λ e. refl), refl)
 
-tidy-after : (o : Operation) (r : InterruptRecord) → Tidy (settingsOf r) → Tidy (settingsAfter o r)
-tidy-after (SetEnabled on) r h = h
-tidy-after (SetPending on) r h = h
-tidy-after (SetActive on) r h = h
-tidy-after (SetState s) r h = h
-tidy-after ClearDeliveryState r h = h
-tidy-after MarkInflight r h = h
-tidy-after CancelInflight r h = h
-tidy-after FinishInflight r h = h
-tidy-after (DeactivateInflight p) r h = h
-tidy-after (SetLevel true) r h = h
-tidy-after (SetLevel false) r h = h
-tidy-after Pulse r h = h
-tidy-after Complete r h = h
-tidy-after (SetPriority p) r h = h
-tidy-after (SetTrigger t) r h = h
-tidy-after (SetRoute a) r h = ((λ e. absurd (true≢false e)), (λ e. refl), refl)
-tidy-after ClearRoute r h = ((λ e. refl), h .1, refl)
-
 pub tidy-kept : (o : Operation) (r : InterruptRecord) → Tidy (settingsOf r) → Tidy (settingsOf (applied o r))
-tidy-kept o r h = subst⁻¹ Tidy (settings-after o r) (tidy-after o r h)
+tidy-kept o r h =
+    settings-hold Tidy (λ x. Unit {0}) r h (λ p k. h) (λ t k. h)
+    (λ a k. ((λ e. absurd (true≢false e)), (λ e. refl), refl))
+    (λ k. ((λ e. refl), h .1, refl))
+    o tt
 
 pub tidy-synchronized : (s : InterruptState) (r : InterruptRecord) → Tidy (settingsOf r) → Tidy (settingsOf (synchronizedWith s r))
 tidy-synchronized s r h = subst⁻¹ Tidy (synchronized-settings s r) h
