@@ -1,3 +1,4 @@
+pub mod Effects
 pub mod Slots
 pub mod NoSlot
 pub mod BankRule
