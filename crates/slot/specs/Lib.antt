@@ -3,3 +3,6 @@ pub mod Slots
 pub mod NoSlot
 pub mod BankRule
 pub mod BankRuleLaws
+pub mod Guest
+pub mod GuestRows
+pub mod GuestLaws
