@@ -1,3 +1,4 @@
 pub mod Banks
 pub mod BankLaws
 pub mod FieldLaws
+pub mod RowLaws

@@ -10,9 +10,9 @@ use Rattle.operation.specs.Operation.{applied}
 use Rattle.bank.specs.declared.bank.Bank.{Bank}
 use Rattle.bank.specs.Banks.{shown}
 use Rattle.ownership.specs.Owned.{unclaimed, visible}
-use Rattle.effect.specs.declared.effect.Effect.{Effect}
-use Rattle.effect.specs.declared.effect.Effect.the-variants.{Leave, Apply}
-use Rattle.effect.specs.Effects.{written}
+use Rattle.slot.specs.declared.effect.Effect.{Effect}
+use Rattle.slot.specs.declared.effect.Effect.the-variants.{Leave, Apply}
+use Rattle.slot.specs.Effects.{written}
 use Rattle.changes.specs.declared.change.Change.{Change}
 use Rattle.changes.specs.Changes.{happens, ownershipAfter, recordAfter}
 use Rattle.slot.specs.declared.slot.Slot.{Slot}

@@ -1,9 +1,9 @@
 // One SPI: what a bank shows of it, what a written field does to it, and what the host makes of it. No table is in here.
+use crate::effect::Effect;
+use crate::effect::written;
 use attributes::attributes::TriggerMode;
 use bank::bank::Bank;
 use changes::change::Change;
-use effect::effect::Effect;
-use effect::effect::written;
 use identifiers::types::IntId;
 use identifiers::types::SpiId;
 use interrupt::interrupt::InterruptRecord;

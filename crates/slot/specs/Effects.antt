@@ -12,9 +12,9 @@ use Rattle.bank.specs.declared.bank.Bank.the-variants.{Set, Clear, Replace}
 use Rattle.bank.specs.Banks.{triggerIn, acts, lists}
 use Rattle.ownership.specs.declared.ownership.Ownership.{Ownership}
 use Rattle.ownership.specs.Owned.{owned}
-use Rattle.effect.specs.declared.effect.Effect.{Effect}
-use Rattle.effect.specs.declared.effect.Effect.the-variants.{Leave, Apply}
-use Rattle.effect.specs.declared.effect.FieldEffect.{FieldEffect}
+use Rattle.slot.specs.declared.effect.Effect.{Effect}
+use Rattle.slot.specs.declared.effect.Effect.the-variants.{Leave, Apply}
+use Rattle.slot.specs.declared.effect.FieldEffect.{FieldEffect}
 
 -- ISENABLER, ISPENDR and ISACTIVER set a flag; ICENABLER, ICPENDR and ICACTIVER clear it
 abbrev pub flagTo : Flag → Bool → Operation

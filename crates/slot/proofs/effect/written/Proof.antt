@@ -1,8 +1,8 @@
 use mathlib.Core.Path.{sym, ap₂, _∙_}
 use mathlib.Core.Bool.{_&&_}
 use borrow.Author.Needs.{needs}
-use Rattle.effect.proofs.effect.written.Statement.{statement}
-use Rattle.effect.proofs.effect.written.Tie as tie
+use Rattle.slot.proofs.effect.written.Statement.{statement}
+use Rattle.slot.proofs.effect.written.Tie as tie
 
 acts-requires : tie.Need-acts-requires
 acts-requires c κs = search needs

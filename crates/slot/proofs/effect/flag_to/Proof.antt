@@ -1,6 +1,6 @@
 use borrow.Author.Needs.{needs}
-use Rattle.effect.proofs.effect.flag_to.Statement.{statement}
-use Rattle.effect.proofs.effect.flag_to.Tie as tie
+use Rattle.slot.proofs.effect.flag_to.Statement.{statement}
+use Rattle.slot.proofs.effect.flag_to.Tie as tie
 
 enum-told : tie.Need-enum-told
 enum-told c = search needs

@@ -1,6 +1,6 @@
 use borrow.Author.Needs.{needs}
-use Rattle.effect.proofs.effect.effect_of.Statement.{statement}
-use Rattle.effect.proofs.effect.effect_of.Tie as tie
+use Rattle.slot.proofs.effect.effect_of.Statement.{statement}
+use Rattle.slot.proofs.effect.effect_of.Tie as tie
 
 enum-known-bank : tie.Need-enum-known-bank
 enum-known-bank c = search needs

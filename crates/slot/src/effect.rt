@@ -8,7 +8,7 @@ use bank::bank::trigger_in;
 use operation::operation::Operation;
 use ownership::ownership::Ownership;
 ghost use mathlib.Core.Path.{_≡_};
-ghost use Rattle.effect.specs.Effects.{flagTo, effectOf, written};
+ghost use Rattle.slot.specs.Effects.{flagTo, effectOf, written};
 
 // What is done to an SPI's record.
 pub enum Effect {

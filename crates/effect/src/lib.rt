@@ -1,2 +1,0 @@
-// What a written field does to one SPI: a row for each bank.
-pub mod effect;

@@ -1,0 +1,118 @@
+-- What the guest reads, and what a write does, of every SPI: a row that is wrong breaks one of these laws even if the code has the same
+-- mistake.
+use Prim.Native.Nat.{ℕ, _^_, _<_}
+use mathlib.Core.Path.{_≡_, refl, _∙_}
+use mathlib.Core.Bool.{Bool, true, false, _&&_, cond, and-true, and-false}
+use lib.Dec.{eqb}
+use Rattle.attributes.specs.Affinity.{mpidrOf}
+use Rattle.attributes.specs.declared.attributes.GicAffinity.{GicAffinity}
+use Rattle.attributes.specs.declared.attributes.Priority as attributes
+use Rattle.attributes.specs.declared.attributes.TriggerMode.{TriggerMode}
+use Rattle.life.specs.Life.{line}
+use Rattle.interrupt.specs.Records.{isLevel}
+use Rattle.operation.specs.declared.operation.Operation.{Operation}
+use Rattle.operation.specs.declared.operation.Operation.the-variants.{SetEnabled, SetActive, SetPriority, SetTrigger, SetRoute, SetLevel, Pulse}
+use Rattle.operation.specs.Laws.{flagsAfter, settingsAfter}
+use Rattle.bank.specs.declared.bank.Flag.{Flag}
+use Rattle.bank.specs.declared.bank.Flag.the-variants.{Enabled, Pending, Active}
+use Rattle.bank.specs.declared.bank.Field.the-variants.{Group, Priority, Configuration, Route}
+use Rattle.bank.specs.declared.bank.Bank.{Bank}
+use Rattle.bank.specs.declared.bank.Bank.the-variants.{Set, Clear, Replace}
+use Rattle.bank.specs.Banks.{bit, bitsOf, shown, acts, lists}
+use Rattle.bank.specs.RowLaws.{ISENABLER, ISPENDR, ISACTIVER, IGROUPR, IPRIORITYR, ICFGR, IROUTER, route-shown, deliverable-shown}
+use Rattle.ownership.specs.Owned.{owned}
+use Rattle.changes.specs.declared.change.Change.the-variants.{Operate}
+use Rattle.slot.specs.declared.slot.Slot.{Slot}
+use Rattle.slot.specs.declared.effect.Effect.{Effect}
+use Rattle.slot.specs.declared.effect.Effect.the-variants.{Leave}
+use Rattle.slot.specs.Effects.{untouched}
+use Rattle.slot.specs.Slots.{showing, fieldWritten, fieldListed, changed}
+use Rattle.slot.specs.Guest.{showsThen, canList, readsDeliverable}
+use Rattle.slot.specs.GuestRows.{made, shown-after, record-row}
+
+effect-chosen : (c : Bool) (e : Effect) (l : Bool) → (cond c (record { effect = e; lists = l }) untouched) .effect ≡ cond c e Leave
+effect-chosen true e l = refl
+effect-chosen false e l = refl
+
+lists-chosen : (c : Bool) (e : Effect) (l : Bool) → (cond c (record { effect = e; lists = l }) untouched) .lists ≡ (c && l)
+lists-chosen true e l = refl
+lists-chosen false e l = refl
+
+can-list : (a : Bank) (v : ℕ) → (acts a v && lists a) ≡ canList a v
+can-list (Set Enabled) v = and-true (eqb v 1)
+can-list (Set Pending) v = and-true (eqb v 1)
+can-list (Set Active) v = and-false (eqb v 1)
+can-list (Clear Enabled) v = and-false (eqb v 1)
+can-list (Clear Pending) v = and-false (eqb v 1)
+can-list (Clear Active) v = and-true (eqb v 1)
+can-list (Replace Group) v = refl
+can-list (Replace Priority) v = refl
+can-list (Replace Configuration) v = refl
+can-list (Replace Route) v = refl
+
+module _ (e : Bool) (s : Slot) where
+  -- ---- every SPI
+
+  -- GICD_IS..R<n> and GICD_IC..R<n> show the same
+  pub pair-shows-one : (f : Flag) → showing e (Set f) s ≡ showing e (Clear f) s
+  pair-shows-one f = refl
+
+  -- GICD_IGROUPR<n> shows which SPIs are owned
+  pub group-shows-owned : showing e IGROUPR s ≡ bit (owned e (s .ownership))
+  group-shows-owned = go (owned e (s .ownership))
+    where
+      go : (b : Bool) → cond b 1 0 ≡ bit b
+      go true = refl
+      go false = refl
+
+  -- a write lists an SPI exactly when it is one that can list, and the guest reads afterwards that the SPI is enabled and pending; an
+  -- unowned SPI shows 0, and is never listed
+  pub listed-exactly : (a : Bank) (v : ℕ) → fieldListed e a v s ≡ (canList a v && readsDeliverable e (fieldWritten e a v s))
+  listed-exactly a v = go (owned e (s .ownership)) refl
+    where
+      go : (b : Bool) → owned e (s .ownership) ≡ b → fieldListed e a v s ≡ (canList a v && readsDeliverable e (fieldWritten e a v s))
+      go true mine = rw (mine, and-true (acts a v), lists-chosen (acts a v), can-list a v, deliverable-shown)
+      go false unowned = rw (unowned, and-false (acts a v), and-false (canList a v))
+
+  -- ---- an SPI that is not owned
+
+  module _ (unowned : owned e (s .ownership) ≡ false) where
+    pub unowned-shows-0 : (b : Bank) → showing e b s ≡ 0
+    unowned-shows-0 b = rw unowned
+
+    pub unowned-ignores : (a : Bank) (v : ℕ) → fieldWritten e a v s ≡ s
+    unowned-ignores a v = rw (unowned, and-false (acts a v))
+
+  -- ---- an owned SPI
+
+  module _ (mine : owned e (s .ownership) ≡ true) where
+    -- what every bank shows after a write to every bank
+    pub read-after-write : (a : Bank) (v : ℕ) (b : Bank) → v < 2 ^ bitsOf a
+        → showing e b (fieldWritten e a v s) ≡ showsThen (line (s .interrupt .life)) (isLevel (s .interrupt)) (s .ownership .«fixed_route») a v b (showing e b s)
+    read-after-write a v b fits = rw (mine, and-true (acts a v), effect-chosen (acts a v)) (record-row (s .ownership .«fixed_route») a v b (s .interrupt) fits)
+
+    -- ---- what a shown value means: it is what the host set
+
+    operated : (b : Bank) (o : Operation) → showing e b (changed (Operate o) s) ≡ shown b (made (flagsAfter o (isLevel (s .interrupt)) (s .interrupt .life)) (settingsAfter o (s .interrupt)) (s .interrupt))
+    operated b o = rw mine (shown-after b o (s .interrupt))
+
+    pub enabled-shows : (on : Bool) → showing e ISENABLER (changed (Operate (SetEnabled on)) s) ≡ bit on
+    enabled-shows on = operated ISENABLER (SetEnabled on)
+
+    pub pulse-shows : showing e ISPENDR (changed (Operate Pulse) s) ≡ 1
+    pulse-shows = operated ISPENDR Pulse
+
+    pub line-shows : showing e ISPENDR (changed (Operate (SetLevel true)) s) ≡ 1
+    line-shows = operated ISPENDR (SetLevel true)
+
+    pub active-shows : (on : Bool) → showing e ISACTIVER (changed (Operate (SetActive on)) s) ≡ bit on
+    active-shows on = operated ISACTIVER (SetActive on)
+
+    pub priority-shows : (p : attributes.Priority) → showing e IPRIORITYR (changed (Operate (SetPriority p)) s) ≡ p .0
+    priority-shows p = operated IPRIORITYR (SetPriority p)
+
+    pub edge-shows : showing e ICFGR (changed (Operate (SetTrigger TriggerMode.Edge)) s) ≡ 2
+    edge-shows = operated ICFGR (SetTrigger TriggerMode.Edge)
+
+    pub route-shows : (a : GicAffinity) → showing e IROUTER (changed (Operate (SetRoute a)) s) ≡ mpidrOf a
+    route-shows a = operated IROUTER (SetRoute a) ∙ route-shown (made (s .interrupt .life) (settingsAfter (SetRoute a) (s .interrupt)) (s .interrupt))
