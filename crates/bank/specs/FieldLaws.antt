@@ -1,10 +1,13 @@
 -- What a bank shows fits its fields.
-use Prim.Native.Nat.{ℕ, zero, suc, _+_, _-_, _*_, _^_, _≤_, _<_}
-use mathlib.Core.Path.{_≡_}
+use Prim.Native.Nat.{ℕ, zero, suc, _+_, _-_, _*_, _/_, _%_, _^_, _≤_, _<_}
+use mathlib.Core.Path.{_≡_, sym, ap, _∙_}
+use mathlib.Core.Logic.{by-cases}
 use mathlib.Core.Bool.{Bool, true, false, cond}
-use native.Mathlib.Nat.{mul-le-mul-right, mul-suc, suc-mul, mul-zero, pow-zero, pow-suc}
+use native.Mathlib.Decide.{decLt}
+use native.Mathlib.Nat.{mul-comm, mul-le-mul-right, mul-suc, suc-mul, mul-zero, pow-zero, pow-suc, div-one, div-div-eq-div-mul}
 use native.Mathlib.Omega.{arith}
 use lib.Pow.{pow-add}
+use lib.Pow as pow
 use Rattle.theory.specs.Bools.{bit-fits}
 use Rattle.attributes.specs.AffinityLaws.{Bytes}
 use Rattle.attributes.specs.declared.attributes.TriggerMode.{TriggerMode}
@@ -15,7 +18,7 @@ use Rattle.bank.specs.declared.bank.Bank.{Bank}
 use Rattle.bank.specs.declared.bank.Field.{Field}
 use Rattle.bank.specs.declared.bank.Field.the-variants.{Group, Priority, Configuration}
 use Rattle.bank.specs.declared.bank.Bank.the-variants.{Set, Clear, Replace}
-use Rattle.bank.specs.Banks.{bitsOf, routeBits, flagIn, edgeField, shown, packed}
+use Rattle.bank.specs.Banks.{bitsOf, field, routeBits, flagIn, edgeField, shown, packed}
 
 pub pow-pow : (a m : ℕ) → (2 ^ a) ^ m ≡ 2 ^ (a * m)
 pow-pow a zero = rw (mul-zero a, pow-zero (2 ^ a))
@@ -28,6 +31,24 @@ pub packed-fits : (b : Bank) (t : ℕ → ℕ) → ((i : ℕ) → t i < 2 ^ bits
 packed-fits b t h lo zero = rw (pow-zero (2 ^ bitsOf b)) (omega arith)
 packed-fits b t h lo (suc m) =
     rw (pow-suc (2 ^ bitsOf b) m) (digit-fits (packed b t (suc lo) m) ((2 ^ bitsOf b) ^ m) (t lo) (2 ^ bitsOf b) (packed-fits b t h (suc lo) m) (h lo))
+
+-- the field of an INTID is what was packed for it
+pub packed-field : (b : Bank) (t : ℕ → ℕ) → ((i : ℕ) → t i < 2 ^ bitsOf b) → (lo m i : ℕ) → lo ≤ i → i < lo + m → field b (packed b t lo m) lo i ≡ t i
+packed-field b t h lo zero i low high = absurd (omega arith)
+packed-field b t h lo (suc m) i low high =
+    by-cases (decLt lo i)
+    (λ p.
+    let x = bitsOf b in
+    let rest = packed b t (suc lo) m in
+    let one : i - lo ≡ suc (i - suc lo) = omega arith in
+    let first : (rest * 2 ^ x + t lo) / (2 ^ x) ^ (i - lo) ≡ (rest * 2 ^ x + t lo) / 2 ^ x / (2 ^ x) ^ (i - suc lo) =
+        rw (one, pow-suc (2 ^ x) (i - suc lo), mul-comm ((2 ^ x) ^ (i - suc lo)) (2 ^ x)) (sym (div-div-eq-div-mul (rest * 2 ^ x + t lo) (2 ^ x) ((2 ^ x) ^ (i - suc lo)))) in
+    ap (λ (q : ℕ). q % 2 ^ x) first ∙ ap (λ (q : ℕ). q / (2 ^ x) ^ (i - suc lo) % 2 ^ x) (pow.high rest x (h lo)) ∙ packed-field b t h (suc lo) m i (omega arith) (omega arith))
+    (λ p.
+    let x = bitsOf b in
+    let z : i ≡ lo = omega arith in
+    let none : i - lo ≡ 0 = omega arith in
+    rw (none, pow-zero (2 ^ x), div-one (packed b t (suc lo) m * 2 ^ x + t lo), z) (pow.low (packed b t (suc lo) m) x (h lo)))
 
 pub edge-fits : (t : TriggerMode) → edgeField t < 4
 edge-fits TriggerMode.Edge = omega arith

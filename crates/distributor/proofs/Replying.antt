@@ -24,12 +24,12 @@ use Rattle.decoding.specs.Decoding.{decode, writeAccess}
 use Rattle.registers.specs.declared.register.Access.{Access}
 use Rattle.registers.specs.declared.register.Access.the-variants.{To, Refused}
 use Rattle.answers.specs.Answers.{toldWrite}
-use Rattle.model.specs.Calls.{Outcome, outcome, size, write, listing, listingUnless, writeReply, reply, step}
+use Rattle.model.specs.Calls.{Outcome, outcome, size, write, afterWrite, listing, listingUnless, writeReply, reply, step}
 use Rattle.distributor.specs.declared.distributor.DistributorState.{DistributorState}
 use Rattle.distributor.specs.declared.access.Wrote.{Wrote}
 use Rattle.distributor.specs.Model.{modelOf}
 use Rattle.distributor.specs.Loops.{withSlots, LaidOut}
-use Rattle.distributor.specs.Writes.{afterWrite, ResultOfWrite}
+use Rattle.distributor.specs.Writes.{ResultOfWrite}
 
 -- a map that leaves every slot alone leaves the Distributor alone
 pub still : (d : DistributorState) → modelOf d ≡ modelOf (withSlots d (mapAt (λ p s. s) (d .slots)))

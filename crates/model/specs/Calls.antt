@@ -129,6 +129,10 @@ module _ (c : ControllerConfig) (n : ℕ) where
 unfoldable pub step : Call → Distributor → Distributor
 step k d = record { config = d .config; switch = switchAfter (d .config) (size d) k (d .switch); count = d .count; slots = mapAt (λ p. slotAfter (d .config) (size d) k (32 + p)) (d .slots) }
 
+-- the Distributor after a write, once the write is decoded to an access
+abbrev pub afterWrite : Distributor → Access → ℕ → Distributor
+afterWrite d a v = record { config = d .config; switch = switched (d .config) (size d) a v (d .switch); count = d .count; slots = mapAt (λ p. writtenAt (d .config) (size d) a v (32 + p)) (d .slots) }
+
 -- ---- what a call answers
 
 -- the record of INTID i is deliverable

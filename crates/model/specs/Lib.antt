@@ -3,3 +3,5 @@ pub mod Replies
 pub mod Typed
 pub mod ReadLaws
 pub mod WriteLaws
+pub mod Inside
+pub mod ReadAfterWrite

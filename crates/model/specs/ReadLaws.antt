@@ -31,14 +31,14 @@ use Rattle.controller.specs.IdentityLaws.{id-fits}
 use Rattle.decoding.specs.WidthLaws.{decode-sound}
 
 module _ (d : Distributor) (ok : Typed d) where
-  shown-at-fits : (b : Bank) (i : ℕ) → shownAt (explicit (d .config .«spi_ownership»)) (size d) b (d .slots) i < 2 ^ bitsOf b
+  pub shown-at-fits : (b : Bank) (i : ℕ) → shownAt (explicit (d .config .«spi_ownership»)) (size d) b (d .slots) i < 2 ^ bitsOf b
   shown-at-fits b i = go (inTable (size d) i) (owned (explicit (d .config .«spi_ownership»)) (slotOf (d .slots) i .ownership))
     where
       positive : (k : ℕ) → 0 < 2 ^ k
       positive k = pow-pos k
 
       go : (t o : Bool) → cond t (cond o (shown b (slotOf (d .slots) i .interrupt)) 0) 0 < 2 ^ bitsOf b
-      go true true = shown-fits b _ (ok i .priority) (ok i .route)
+      go true true = shown-fits b _ (ok .bytes i .priority) (ok .bytes i .route)
       go true false = positive (bitsOf b)
       go false o = positive (bitsOf b)
 

@@ -1,15 +1,16 @@
--- What the code's types say of a state: a priority and the levels of an affinity are bytes. It holds of a Distributor just created, and
--- every call keeps it.
+-- What the code's types say of a state: there are 988 slots, and a priority and the levels of an affinity are bytes. It holds of a
+-- Distributor just created, and every call keeps it.
 use Prim.Native.Nat.{ℕ, zero, suc, _+_, _-_, _%_, _<_}
-use mathlib.Core.Path.{_≡_, refl, sym, ap, subst, subst⁻¹}
+use mathlib.Core.Path.{_≡_, refl, sym, ap, subst, subst⁻¹, _∙_}
 use mathlib.Core.Bool.{Bool, true, false, _&&_, cond}
 use mathlib.Core.List.{List, [], _∷_}
 use mathlib.Core.Option.{some}
 use native.Mathlib.Omega.{arith}
 use lib.Dec.{eqb}
-use lib.ListN.{getD, getElem?}
+use lib.ListN.{length, getD, getElem?}
 use Rattle.theory.specs.Lists.{tabulate}
-use Rattle.theory.specs.MapAtLaws.{relates-mapAt}
+use Rattle.theory.specs.ListLaws.{length-tabulate}
+use Rattle.theory.specs.MapAtLaws.{relates-mapAt, length-mapAt}
 use Rattle.theory.specs.Runs.{run}
 use Rattle.identifiers.specs.declared.types.IntId.{IntId}
 use Rattle.attributes.specs.Affinity.{affinity, fromMpidr}
@@ -32,8 +33,8 @@ use Rattle.bank.specs.declared.bank.Field.{Field}
 use Rattle.bank.specs.declared.bank.Bank.{Bank}
 use Rattle.bank.specs.declared.bank.Bank.the-variants.{Set, Clear, Replace}
 use Rattle.bank.specs.Banks.{acts, lists, field, triggerIn}
-use Rattle.effect.specs.declared.effect.FieldEffect.{FieldEffect}
-use Rattle.effect.specs.Effects.{flagTo, effectOf, untouched}
+use Rattle.slot.specs.declared.effect.FieldEffect.{FieldEffect}
+use Rattle.slot.specs.Effects.{flagTo, effectOf, untouched}
 use Rattle.ownership.specs.Owned.{owned}
 use Rattle.registers.specs.declared.register.Register.the-variants.{Identification, Ctlr, Typer, Iidr, Fields, Reserved}
 use Rattle.registers.specs.declared.register.Access.{Access}
@@ -54,8 +55,9 @@ pub record TypedSlot (s : Slot) : Type 0 where
   pub priority : s .interrupt .priority .0 < 256
   pub route : Bytes (s .interrupt .route)
 
-abbrev pub Typed : Distributor → Type 0
-Typed d = (i : ℕ) → TypedSlot (slotOf (d .slots) i)
+pub record Typed (d : Distributor) : Type 0 where
+  pub room : length (d .slots) ≡ capacity
+  pub bytes : (i : ℕ) → TypedSlot (slotOf (d .slots) i)
 
 -- three calls hand a priority or an affinity over
 pub record TypedCall (k : Call) : Type 0 where
@@ -167,7 +169,7 @@ none-typed = record { priority = omega arith; route = zeros }
 -- ---- states
 
 pub typed-created : (c : ControllerConfig) (n : ℕ) → Typed (created c n)
-typed-created c n i = go 0 capacity (i - 32)
+typed-created c n = record { room = length-tabulate (λ p. freshSpi (32 + p)) 0 capacity; bytes = λ i. go 0 capacity (i - 32) }
   where
     go : (k m p : ℕ) → TypedSlot (getD (tabulate (λ q. freshSpi (32 + q)) k m) p noSlot)
     go k zero p = none-typed
@@ -176,9 +178,14 @@ typed-created c n i = go 0 capacity (i - 32)
 
 pub typed-kept : (k : Call) (d : Distributor) → TypedCall k → Typed d → Typed (step k d)
 unfolding step
-typed-kept k d call ok i =
-    relates-mapAt (λ was is. TypedSlot is) (λ p. slotAfter (d .config) (size d) k (32 + p)) (i - 32) (d .slots) noSlot none-typed
-    (call-typed (slotOf (d .slots) i) (ok i) (d .config) (size d) k (32 + (i - 32)) call)
+typed-kept k d call ok =
+    record {
+      room = length-mapAt after (d .slots) ∙ ok .room;
+      bytes = λ i. relates-mapAt (λ was is. TypedSlot is) after (i - 32) (d .slots) noSlot none-typed (call-typed (slotOf (d .slots) i) (ok .bytes i) (d .config) (size d) k (32 + (i - 32)) call);
+    }
+  where
+    after : ℕ → Slot → Slot
+    after p = slotAfter (d .config) (size d) k (32 + p)
 
 -- so after any calls of the code, whose own types say `TypedCall`
 pub typed-run : (calls : List Call) (d : Distributor) → ((j : ℕ) (k : Call) → getElem? calls j ≡ some k → TypedCall k) → Typed d → Typed (run step calls d)

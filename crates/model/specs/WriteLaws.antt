@@ -9,7 +9,6 @@ use borrow.Author.Tests.{leb-true, ltb-true}
 use lib.Dec.{leb, ltb, eqb}
 use lib.Pow as pow
 use Rattle.theory.specs.Bools.{both}
-use Rattle.theory.specs.Lists.{mapAt}
 use Rattle.theory.specs.ListLaws.{passing-agree}
 use Rattle.theory.specs.MapAtLaws.{mapAt-same}
 use Rattle.identifiers.specs.Answer.{within}
@@ -30,14 +29,14 @@ use Rattle.controller.specs.Identity.{switchBit}
 use Rattle.decoding.specs.WidthLaws.{decode-covers}
 use Rattle.slot.specs.declared.slot.Slot.{Slot}
 use Rattle.slot.specs.BankRule.{bankSlot, candidate, bankCandidates, writeBeyond}
-use Rattle.model.specs.Calls.{Distributor, write, size, writtenAt, switched, writeReply, reply, step}
+use Rattle.model.specs.Calls.{Distributor, write, size, afterWrite, writeReply, reply, step}
 
 -- a value cut to the width of the access
 abbrev pub cut : AccessWidth → ℕ → ℕ
 cut w v = v % 2 ^ (8 * bytesOf w)
 
 -- a field that lies within k bits is the same in the value cut to k bits
-field-cut : (b : Bank) (k v lo i m : ℕ) → bitsOf b * m ≤ k → lo ≤ i → i < lo + m → field b (v % 2 ^ k) lo i ≡ field b v lo i
+pub field-cut : (b : Bank) (k v lo i m : ℕ) → bitsOf b * m ≤ k → lo ≤ i → i < lo + m → field b (v % 2 ^ k) lo i ≡ field b v lo i
 field-cut b k v lo i m h low high =
     let x = bitsOf b in
     let j = i - lo in
@@ -105,15 +104,12 @@ module _ (d : Distributor) (offset : ℕ) (w : AccessWidth) (v places : ℕ) whe
           rw (x, y)
       go (To Reserved) e = refl
 
-  abbrev written : Access → ℕ → Distributor
-  written a x = record { config = d .config; switch = switched (d .config) (size d) a x (d .switch); count = d .count; slots = mapAt (λ p. writtenAt (d .config) (size d) a x (32 + p)) (d .slots) }
-
   -- the whole next state
   pub cut-step : step (write offset w (cut w v) places) d ≡ step (write offset w v places) d
   unfolding step
   cut-step = go here refl
     where
-      go : (a : Access) → here ≡ a → written a (cut w v) ≡ written a v
+      go : (a : Access) → here ≡ a → afterWrite d a (cut w v) ≡ afterWrite d a v
       go (Refused f) e = refl
       go (To (Identification k)) e = refl
       go (To Ctlr) e = let s = switch-cut w v in rw s

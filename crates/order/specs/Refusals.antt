@@ -4,6 +4,7 @@ use mathlib.Core.Path.{_≡_, refl, sym, ap, _∙_}
 use mathlib.Core.Bool.{Bool, true, false, not, _&&_, cond, true≢false}
 use mathlib.Core.List.{List, [], _∷_}
 use mathlib.Core.Option.{Option, none, some, Option·map}
+use mathlib.Core.Logic.{_≢_}
 use native.Mathlib.Omega.{arith}
 use borrow.Author.Tests.{eqb-true}
 use lib.Dec.{eqb}
@@ -13,6 +14,7 @@ use Rattle.theory.specs.Elements.{at-all, at-mapAt, at-holds}
 use Rattle.identifiers.specs.Answer.{done, refused}
 use Rattle.place.specs.Table.{inTable}
 use Rattle.controller.specs.Modes.{explicit}
+use Rattle.registers.specs.declared.register.AccessWidth.{AccessWidth}
 use Rattle.registers.specs.declared.register.Register.the-variants.{Identification, Ctlr, Typer, Iidr, Fields, Reserved}
 use Rattle.registers.specs.declared.register.Access.{Access}
 use Rattle.registers.specs.declared.register.Access.the-variants.{To, Refused}
@@ -23,28 +25,9 @@ use Rattle.slot.specs.NoSlot.{noSlot}
 use Rattle.slot.specs.BankRule.{slotOf, bankCandidates, writeBeyond}
 use Rattle.changes.specs.declared.change.Change.{Change}
 use Rattle.changes.specs.declared.change.Change.the-variants.{Claim, ClaimTo, Release, SetCpuTargetMask, SynchronizeInflight, Operate}
+use Rattle.spi.specs.declared.question.Question.{Question}
 use Rattle.spi.specs.ChangeAnswers.{claimAnswer, changeAnswer}
 use Rattle.model.specs.Calls.{Distributor, Call, create, read, write, isSwitchedOn, rollback, change, ask, size, writtenAt, changedAt, slotAfter, switched, switchAfter, step, onSpi, listingUnless, writeReply, reply}
-
--- a guest write that is refused 1
-abbrev pub ranBeyond : Call → ℕ → Bool
-ranBeyond (create d m) r = false
-ranBeyond (read offset w) r = false
-ranBeyond (write offset w v places) r = eqb r 1
-ranBeyond isSwitchedOn r = false
-ranBeyond (rollback on) r = false
-ranBeyond (change h raw) r = false
-ranBeyond (ask q raw) r = false
-
--- a call that only asks
-abbrev pub onlyAsks : Call → Bool
-onlyAsks (create d m) = false
-onlyAsks (read offset w) = true
-onlyAsks (write offset w v places) = false
-onlyAsks isSwitchedOn = true
-onlyAsks (rollback on) = false
-onlyAsks (change h raw) = false
-onlyAsks (ask q raw) = true
 
 never : {A : Type 0} (vs ws : List ℕ) (r : ℕ) → done vs ≡ refused r ws → A
 never vs ws r e = let z : _≡_ {A = ℕ} 0 1 = cc in absurd (omega arith)
@@ -65,14 +48,12 @@ module _ (d : Distributor) where
       there p none e = refl
       there p (some s) e = ap {B = Option Slot} some (kept p s e)
 
-  pub asking-still : (k : Call) → onlyAsks k ≡ true → step k d ≡ d
-  asking-still (create c m) e = absurd (true≢false (sym e))
-  asking-still (read offset w) e = still (read offset w) refl (λ p s at. refl)
-  asking-still (write offset w v places) e = absurd (true≢false (sym e))
-  asking-still isSwitchedOn e = still isSwitchedOn refl (λ p s at. refl)
-  asking-still (rollback on) e = absurd (true≢false (sym e))
-  asking-still (change h raw) e = absurd (true≢false (sym e))
-  asking-still (ask q raw) e = still (ask q raw) refl (λ p s at. refl)
+  -- the calls that only ask
+  pub asking-still :
+      ((offset : ℕ) (w : AccessWidth) → step (read offset w) d ≡ d) ×
+      (step isSwitchedOn d ≡ d) ×
+      ((q : Question) (raw : ℕ) → step (ask q raw) d ≡ d)
+  asking-still = ((λ offset w. still (read offset w) refl (λ p s at. refl)), still isSwitchedOn refl (λ p s at. refl), (λ q raw. still (ask q raw) refl (λ p s at. refl)))
 
   module _ (r : ℕ) (ws : List ℕ) where
     claim-still : (s t : Slot) → claimAnswer (s .ownership .«explicitly_owned») ≡ refused r ws → cond (not (s .ownership .«explicitly_owned»)) t s ≡ s
@@ -106,7 +87,7 @@ module _ (d : Distributor) where
             change-still h s (ap (changeAnswer h) (sym slot) ∙ said)
         go false t = refl
 
-    write-still : (a : Access) (v : ℕ) → writeReply d a v .answer ≡ refused r ws → eqb r 1 ≡ false
+    write-still : (a : Access) (v : ℕ) → writeReply d a v .answer ≡ refused r ws → r ≢ 1
         → (switched (d .config) (size d) a v (d .switch) ≡ d .switch) × ((i : ℕ) (s : Slot) → writtenAt (d .config) (size d) a v i s ≡ s)
     write-still (Refused f) v e n = (refl, λ i s. refl)
     write-still (To (Identification k)) v e n = never _ ws r e
@@ -117,17 +98,18 @@ module _ (d : Distributor) where
       where
         go : {A : Type 0} (l : List ℕ) → listingUnless l (bankCandidates (explicit (d .config .«spi_ownership»)) (size d) b v lo m (d .slots)) .answer ≡ refused r ws → A
         go [] h = never _ ws r h
-        go (i ∷ is) h = let z : 1 ≡ r = cc in absurd (true≢false (ap (λ (q : ℕ). eqb q 1) z ∙ n))
+        go (i ∷ is) h = let z : r ≡ 1 = cc in absurd (n z)
     write-still (To Reserved) v e n = never _ ws r e
 
-    pub refused-still : (k : Call) → reply k d .answer ≡ refused r ws → ranBeyond k r ≡ false → step k d ≡ d
+    -- a refused call changes nothing, unless it is a write and refused 1
+    pub refused-still : (k : Call) → reply k d .answer ≡ refused r ws → ((offset : ℕ) (w : AccessWidth) (v places : ℕ) → k ≡ write offset w v places → r ≢ 1) → step k d ≡ d
     unfolding reply
     refused-still (create c m) e n = still (create c m) refl (λ p s at. refl)
-    refused-still (read offset w) e n = still (read offset w) refl (λ p s at. refl)
+    refused-still (read offset w) e n = asking-still .0 offset w
     refused-still (write offset w v places) e n =
-        let (on, kept) = write-still (writeAccess places (size d) (d .config .«distributor_size») offset w) v e n in
+        let (on, kept) = write-still (writeAccess places (size d) (d .config .«distributor_size») offset w) v e (n offset w v places refl) in
         still (write offset w v places) on (λ p s at. kept (32 + p) s)
     refused-still isSwitchedOn e n = never _ ws r e
     refused-still (rollback on) e n = never _ ws r e
     refused-still (change h raw) e n = still (change h raw) refl (host-still h raw e)
-    refused-still (ask q raw) e n = still (ask q raw) refl (λ p s at. refl)
+    refused-still (ask q raw) e n = asking-still .2 q raw

@@ -15,6 +15,10 @@ module _ {A : Type 0} where
   pub length-laid : (xs l : List A) → length xs ≤ length l → length (laid xs l) ≡ length l
   length-laid xs l h = simp (length-append, length-drop) (omega arith)
 
+  pub length-tabulate : (f : ℕ → A) (k n : ℕ) → length (tabulate f k n) ≡ n
+  length-tabulate f k zero = refl
+  length-tabulate f k (suc n) = ap suc (length-tabulate f (suc k) n)
+
   getD-tabulate : (f : ℕ → A) (k n i : ℕ) (d : A) → i < n → getD (tabulate f k n) i d ≡ f (k + i)
   getD-tabulate f k zero i d h = absurd (not-suc-le-zero h)
   getD-tabulate f k (suc n) zero d h = rw (add-zero k)

@@ -1,10 +1,11 @@
 -- Laws of `mapAt`: a store at one place is a map, and a loop of stores grows one.
-use Prim.Native.Nat.{ℕ, zero, suc, _+_, _≤_}
+use Prim.Native.Nat.{ℕ, zero, suc, _+_, _≤_, _<_}
 use mathlib.Core.Path.{_≡_, refl, sym, ap, _∙_}
 use mathlib.Core.Logic.{_≢_}
 use mathlib.Core.List.{List, [], _∷_}
+use native.Mathlib.Nat.{le-of-suc-le-suc}
 use native.Mathlib.Omega.{arith}
-use lib.ListN.{getD, set}
+use lib.ListN.{length, getD, set}
 use Rattle.theory.specs.Lists.{mapFrom, mapAt}
 
 module _ {A : Type 0} where
@@ -36,6 +37,22 @@ module _ {A : Type 0} where
   -- a place that a map leaves alone
   pub getD-mapAt : (f : ℕ → A → A) (i : ℕ) (l : List A) (d : A) → ((x : A) → f i x ≡ x) → getD (mapAt f l) i d ≡ getD l i d
   getD-mapAt f i l d h = let e : 0 + i ≡ i = omega arith in getD-mapFrom f 0 i l d (λ x. ap (λ (j : ℕ). f j x) e ∙ h x)
+
+  mapped-from : (f : ℕ → A → A) (k i j : ℕ) (l : List A) (d : A) → j ≡ k + i → i < length l → getD (mapFrom f k l) i d ≡ f j (getD l i d)
+  mapped-from f k i j [] d e h = absurd (omega arith)
+  mapped-from f k zero j (x ∷ xs) d e h = let z : k ≡ j = omega arith in ap (λ (q : ℕ). f q x) z
+  mapped-from f k (suc i) j (x ∷ xs) d e h = mapped-from f (suc k) i j xs d (omega arith) (le-of-suc-le-suc h)
+
+  -- a place that the list has
+  pub mapped-at : (f : ℕ → A → A) (i : ℕ) (l : List A) (d : A) → i < length l → getD (mapAt f l) i d ≡ f i (getD l i d)
+  mapped-at f i l d h = mapped-from f 0 i i l d (omega arith) h
+
+  length-mapFrom : (f : ℕ → A → A) (k : ℕ) (l : List A) → length (mapFrom f k l) ≡ length l
+  length-mapFrom f k [] = refl
+  length-mapFrom f k (x ∷ xs) = ap suc (length-mapFrom f (suc k) xs)
+
+  pub length-mapAt : (f : ℕ → A → A) (l : List A) → length (mapAt f l) ≡ length l
+  length-mapAt f l = length-mapFrom f 0 l
 
   relates-mapFrom : (R : A → A → Type 0) (f : ℕ → A → A) (k i j : ℕ) (l : List A) (d : A) → j ≡ k + i
       → R d d → R (getD l i d) (f j (getD l i d)) → R (getD l i d) (getD (mapFrom f k l) i d)
