@@ -210,8 +210,8 @@ taken d o w g = cond (needsAnother d o w) (Refused InvalidWidth) (To g)
 pub width-decides : (d : Direction) (o : ℕ) (w : AccessWidth) → lookup d map o w ≡ taken d o w (reached (lookup d map o w))
 width-decides d o w = rw (← refuses-is o w d) (decided d map o w)
 
-pub wrong-width : (d : Direction) (o : ℕ) (w : AccessWidth) → lookup d map o w ≡ Refused InvalidWidth ↔ needsAnother d o w ≡ true
-wrong-width d o w = go (needsAnother d o w) (width-decides d o w)
+pub width-refused : (d : Direction) (o : ℕ) (w : AccessWidth) → lookup d map o w ≡ Refused InvalidWidth ↔ needsAnother d o w ≡ true
+width-refused d o w = go (needsAnother d o w) (width-decides d o w)
   where
     go : (b : Bool) → lookup d map o w ≡ cond b (Refused InvalidWidth) (To (reached (lookup d map o w))) → lookup d map o w ≡ Refused InvalidWidth ↔ b ≡ true
     go true e = ((λ r. refl), (λ t. e))
