@@ -1,3 +1,4 @@
 pub mod Decoding
 pub mod Bounds
 pub mod WidthLaws
+pub mod RefusalLaws

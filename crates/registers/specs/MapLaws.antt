@@ -14,7 +14,7 @@ use Rattle.theory.specs.Bools.{both, either, refuted}
 use Rattle.identifiers.specs.Answer.{within}
 use Rattle.theory.specs.ListLaws.{everywhere}
 use Rattle.registers.specs.declared.register.AccessWidth.{AccessWidth}
-use Rattle.registers.specs.declared.register.AccessWidth.the-variants.{Byte, Dword, Qword}
+use Rattle.registers.specs.declared.register.AccessWidth.the-variants.{Byte, Word, Dword, Qword}
 use Rattle.bank.specs.declared.bank.Bank.{Bank}
 use Rattle.bank.specs.declared.bank.Bank.the-variants.{Set, Clear, Replace}
 use Rattle.bank.specs.declared.bank.Flag.the-variants.{Enabled, Pending, Active}
@@ -25,7 +25,7 @@ use Rattle.registers.specs.declared.register.Access.the-variants.{To, Re
 use Rattle.identifiers.specs.declared.error.Refusal.the-variants.{InvalidWidth}
 use Rattle.registers.specs.declared.register.Direction.{Direction}
 use Rattle.registers.specs.declared.register.Direction.the-variants.{Reading, Writing}
-use Rattle.registers.specs.Registers.{qword, any, takes, Row, map, widthsFor, inRow, holds, rowAccess, lookup}
+use Rattle.registers.specs.Registers.{bytesOf, qword, any, takes, Row, map, widthsFor, inRow, holds, rowAccess, lookup}
 use Rattle.registers.specs.MapRows.{noRow}
 
 -- ---- one register an offset
@@ -101,6 +101,9 @@ holder-decides d o w (r ∷ rs) (suc k) h e t =
 
 -- ---- a bank's INTIDs, by its offset
 
+pub width-bytes : (bytesOf Byte ≡ 1) × (bytesOf Word ≡ 2) × (bytesOf Dword ≡ 4) × (bytesOf Qword ≡ 8)
+width-bytes = (refl, refl, refl, refl)
+
 in-row : (from end every o : ℕ) → from ≤ o → o < end → (o - from) % every ≡ 0 → inRow from end every o ≡ true
 in-row from end every o l h e = simp (le-leb from o l, lt-ltb o end h, eq-eqb ((o - from) % every) 0 e)
 
@@ -112,17 +115,20 @@ pub flag-intids : (d : Direction) (k : ℕ) → k < 224 → lookup d map (0x80 +
 flag-intids Reading = everywhere (λ k. lookup Reading map (0x80 + 4 * k) Dword) (λ k. To (Fields (flagBank (k / 32)) (32 * (k % 32)) 32)) 224 refl
 flag-intids Writing = everywhere (λ k. lookup Writing map (0x80 + 4 * k) Dword) (λ k. To (Fields (flagBank (k / 32)) (32 * (k % 32)) 32)) 224 refl
 
--- IPRIORITYR has a byte, and IROUTER eight, for each INTID
-pub ipriorityr-intids : (d : Direction) (i : ℕ) → i < 1020 → lookup d map (0x400 + i) Byte ≡ To (Fields (Replace Priority) i 1)
-ipriorityr-intids d i h =
+-- IPRIORITYR has a byte for each INTID: an access of any width covers one INTID a byte
+pub ipriorityr-intids : (d : Direction) (w : AccessWidth) (i : ℕ) → i < 1020 → lookup d map (0x400 + i) w ≡ To (Fields (Replace Priority) i (bytesOf w))
+ipriorityr-intids d w i h =
     let inside : inRow 0x400 0x7fc 1 (0x400 + i) ≡ true = in-row 0x400 0x7fc 1 (0x400 + i) (omega arith) (omega arith) (omega arith) in
     let at : (0x400 + i - 0x400) * 8 / 8 ≡ i = omega arith in
-    holder-decides d (0x400 + i) Byte map 11 (omega arith) refl inside ∙ taken d at
+    let bytes : bytesOf w * 8 / 8 ≡ bytesOf w = omega arith in
+    holder-decides d (0x400 + i) w map 11 (omega arith) refl inside ∙ taken d at bytes
   where
-    taken : (e : Direction) {n : ℕ} → n ≡ i → cond (takes (widthsFor e any any) Byte) (To (Fields (Replace Priority) n 1)) (Refused InvalidWidth) ≡ To (Fields (Replace Priority) i 1)
-    taken Reading e = rw e
-    taken Writing e = rw e
+    taken : (e : Direction) {n m : ℕ} → n ≡ i → m ≡ bytesOf w
+        → cond (takes (widthsFor e any any) w) (To (Fields (Replace Priority) n m)) (Refused InvalidWidth) ≡ To (Fields (Replace Priority) i (bytesOf w))
+    taken Reading e f = rw (e, f)
+    taken Writing e f = rw (e, f)
 
+-- IROUTER has eight bytes
 pub irouter-intids : (d : Direction) (i : ℕ) → i < 1020 → lookup d map (0x6000 + 8 * i) Qword ≡ To (Fields (Replace Field.Route) i 1)
 irouter-intids d i h =
     let inside : inRow 0x6000 0x7fe0 1 (0x6000 + 8 * i) ≡ true = in-row 0x6000 0x7fe0 1 (0x6000 + 8 * i) (omega arith) (omega arith) (omega arith) in
