@@ -42,7 +42,7 @@ packed-field b t h lo (suc m) i low high =
     let rest = packed b t (suc lo) m in
     let one : i - lo ≡ suc (i - suc lo) = omega arith in
     let first : (rest * 2 ^ x + t lo) / (2 ^ x) ^ (i - lo) ≡ (rest * 2 ^ x + t lo) / 2 ^ x / (2 ^ x) ^ (i - suc lo) =
-        rw (one, pow-suc (2 ^ x) (i - suc lo), mul-comm ((2 ^ x) ^ (i - suc lo)) (2 ^ x)) (sym (div-div-eq-div-mul (rest * 2 ^ x + t lo) (2 ^ x) ((2 ^ x) ^ (i - suc lo)))) in
+    rw (one, pow-suc (2 ^ x) (i - suc lo), mul-comm ((2 ^ x) ^ (i - suc lo)) (2 ^ x)) (sym (div-div-eq-div-mul (rest * 2 ^ x + t lo) (2 ^ x) ((2 ^ x) ^ (i - suc lo)))) in
     ap (λ (q : ℕ). q % 2 ^ x) first ∙ ap (λ (q : ℕ). q / (2 ^ x) ^ (i - suc lo) % 2 ^ x) (pow.high rest x (h lo)) ∙ packed-field b t h (suc lo) m i (omega arith) (omega arith))
     (λ p.
     let x = bitsOf b in

@@ -2,8 +2,8 @@
 -- every bank, and wherever it is refused.
 use Prim.Native.Nat.{ℕ, _+_, _-_, _*_, _/_, _%_, _^_, _≤_, _<_, min}
 use mathlib.Core.Path.{_≡_, refl, sym, ap, _∙_}
-use mathlib.Core.Bool.{Bool, true, false, not, _&&_, and-false}
-use mathlib.Core.List.{List, [], _∷_}
+use mathlib.Core.Bool.{Bool, true, false, _&&_, cond, and-false}
+use mathlib.Core.List.{List, []}
 use mathlib.Core.Logic.{by-cases}
 use native.Mathlib.Decide.{decLt}
 use native.Mathlib.Nat.{mod-lt, div-eq-of-lt, zero-mod, mul-le-mul-left}
@@ -13,7 +13,9 @@ use lib.Dec.{leb, ltb}
 use lib.Pow.{pow-mono, pow-pos}
 use Rattle.theory.specs.ListLaws.{passing-agree, passing-never}
 use Rattle.theory.specs.MapAtLaws.{mapAt-same}
-use Rattle.identifiers.specs.Answer.{refused}
+use Rattle.identifiers.specs.Answer.{refused, toldRefusal}
+use Rattle.identifiers.specs.declared.error.Refusal.{Refusal}
+use Rattle.identifiers.specs.declared.error.Refusal.the-variants.{InvalidAccess, InvalidWidth, ShortList}
 use Rattle.place.specs.Table.{inTable, beyondTable}
 use Rattle.place.specs.TableLaws.{in-range}
 use Rattle.controller.specs.Modes.{explicit}
@@ -21,14 +23,18 @@ use Rattle.bank.specs.declared.bank.Bank.{Bank}
 use Rattle.bank.specs.Banks.{bitsOf, field, writeRefuses, refusedOver}
 use Rattle.bank.specs.FieldLaws.{pow-pow}
 use Rattle.registers.specs.declared.register.AccessWidth.{AccessWidth}
+use Rattle.registers.specs.declared.register.Direction.the-variants.{Writing}
 use Rattle.registers.specs.declared.register.Register.the-variants.{Identification, Ctlr, Typer, Iidr, Fields, Reserved}
 use Rattle.registers.specs.declared.register.Access.{Access}
 use Rattle.registers.specs.declared.register.Access.the-variants.{To, Refused}
+use Rattle.registers.specs.FrameLaws.{needsAnother}
+use Rattle.registers.specs.FrameMap.{registerThere}
 use Rattle.decoding.specs.Decoding.{writeAccess}
 use Rattle.slot.specs.declared.slot.Slot.{Slot}
 use Rattle.slot.specs.BankRule.{covers, bankSlot, bankCandidates, writeBeyond}
 use Rattle.model.specs.Calls.{Distributor, write, size, step, afterWrite, listing, listingUnless, writeReply, reply}
 use Rattle.model.specs.WriteLaws.{field-cut}
+use Rattle.model.specs.RefusedWhen.{misplaced, reachedAt, decoded-at}
 
 -- of m fields from INTID lo on, those below the table's end
 abbrev pub inside : Distributor → ℕ → ℕ → ℕ
@@ -114,3 +120,46 @@ module _ (d : Distributor) (b : Bank) (v lo m : ℕ) where
 
       none : writeBeyond e n b (valueInside d b lo v) lo m ≡ []
       none = passing-agree (refusedOver e n b (valueInside d b lo v) lo) (λ i. false) lo m (λ i low high. here i low) ∙ passing-never (λ i. false) lo m (λ i. refl)
+
+-- a write that is refused 1 reaches a bank, and leaves the state of a write that is done: of its fields inside the table
+pub record DoneInside (d : Distributor) (offset : ℕ) (w : AccessWidth) (v places : ℕ) : Type 0 where
+  pub bank : Bank
+  pub lo : ℕ
+  pub m : ℕ
+  pub reaches : writeAccess places (size d) (d .config .«distributor_size») offset w ≡ To (Fields bank lo m)
+  pub state : step (write offset w v places) d ≡ afterWrite d (To (Fields bank lo (inside d lo m))) v
+  pub granted : writeReply d (To (Fields bank lo (inside d lo m))) v ≡ listing (bankCandidates (explicit (d .config .«spi_ownership»)) (size d) bank v lo (inside d lo m) (d .slots))
+
+pub refused-inside : (d : Distributor) (offset : ℕ) (w : AccessWidth) (v places : ℕ) (ws : List ℕ) → reply (write offset w v places) d .answer ≡ refused 1 ws → DoneInside d offset w v places
+unfolding reply step
+refused-inside d offset w v places ws e = go (writeAccess places (size d) (d .config .«distributor_size») offset w) refl e
+  where
+    other : {A : Type 0} → _≡_ {A = ℕ} 0 1 → A
+    other z = absurd (omega arith)
+
+    decoding : writeAccess places (size d) (d .config .«distributor_size») offset w ≡ cond (ltb places (size d)) (Refused ShortList) (reachedAt Writing (d .config .«distributor_size») offset w)
+    decoding = ap (cond (ltb places (size d)) (Refused ShortList)) (decoded-at Writing (d .config .«distributor_size») offset w)
+
+    -- refusals 5, 3 and 4 come before
+    early : {A : Type 0} (s x y : Bool) (f : Refusal) → cond s (Refused ShortList) (cond x (Refused InvalidAccess) (cond y (Refused InvalidWidth) (To (registerThere offset w)))) ≡ Refused f → toldRefusal f ≡ refused 1 ws → A
+    early true x y f p q = other cc
+    early false true y f p q = other cc
+    early false false true f p q = other cc
+    early false false false f p q = other cc
+
+    go : (a : Access) → writeAccess places (size d) (d .config .«distributor_size») offset w ≡ a → writeReply d a v .answer ≡ refused 1 ws → DoneInside d offset w v places
+    go (Refused f) p q = early (ltb places (size d)) (misplaced (d .config .«distributor_size») offset w) (needsAnother Writing offset w) f (sym decoding ∙ p) q
+    go (To (Identification k)) p q = other cc
+    go (To Ctlr) p q = other cc
+    go (To Typer) p q = other cc
+    go (To Iidr) p q = other cc
+    go (To (Fields b lo m)) p q =
+        record {
+          bank = b;
+          lo = lo;
+          m = m;
+          reaches = p;
+          state = ap (λ (a : Access). afterWrite d a v) p ∙ work-inside d b v lo m;
+          granted = inside-granted d b v lo m;
+        }
+    go (To Reserved) p q = other cc

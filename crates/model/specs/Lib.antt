@@ -1,5 +1,6 @@
 pub mod Calls
 pub mod Replies
+pub mod RefusedWhen
 pub mod Typed
 pub mod ReadLaws
 pub mod WriteLaws

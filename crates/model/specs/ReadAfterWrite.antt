@@ -1,6 +1,6 @@
 -- What the guest reads after it wrote: each register against each register, in every state, in both ownership modes, at every width
 -- that is legal.
-use Prim.Native.Nat.{ℕ, _+_, _-_, _*_, _/_, _%_, _^_, _≤_, _<_}
+use Prim.Native.Nat.{ℕ, _+_, _-_, _*_, _/_, _%_, _<_}
 use mathlib.Core.Path.{_≡_, refl, sym, ap, _∙_}
 use mathlib.Core.Bool.{Bool, true, false, _&&_, cond, and-false}
 use mathlib.Core.List.{List, [], _∷_}
@@ -9,20 +9,21 @@ use lib.ListN.{length}
 use lib.Pow.{pow-pos}
 use native.Mathlib.Nat.{mod-lt}
 use Rattle.theory.specs.MapAtLaws.{mapped-at, mapAt-still}
-use Rattle.identifiers.specs.Answer.{Answer, done, within, unless}
+use Rattle.identifiers.specs.Answer.{done, within, unless}
 use Rattle.life.specs.Life.{line}
 use Rattle.interrupt.specs.Records.{isLevel}
 use Rattle.place.specs.Table.{inTable}
 use Rattle.place.specs.TableLaws.{in-range}
 use Rattle.ownership.specs.Owned.{owned}
 use Rattle.controller.specs.Modes.{explicit}
+use Rattle.controller.specs.IdentityLaws.{ctlr-written}
 use Rattle.bank.specs.declared.bank.Bank.{Bank}
 use Rattle.bank.specs.Banks.{bitsOf, field, packed}
 use Rattle.bank.specs.BankLaws.{packed-same}
 use Rattle.bank.specs.FieldLaws.{packed-field}
 use Rattle.registers.specs.declared.register.AccessWidth.{AccessWidth}
 use Rattle.registers.specs.declared.register.Direction.the-variants.{Reading}
-use Rattle.registers.specs.declared.register.Register.the-variants.{Fields}
+use Rattle.registers.specs.declared.register.Register.the-variants.{Identification, Ctlr, Typer, Iidr, Fields, Reserved}
 use Rattle.registers.specs.declared.register.Access.{Access}
 use Rattle.registers.specs.declared.register.Access.the-variants.{To}
 use Rattle.decoding.specs.Decoding.{decode, writeAccess}
@@ -32,7 +33,7 @@ use Rattle.slot.specs.NoSlot.{noSlot}
 use Rattle.slot.specs.BankRule.{slotOf, covers, shownAt, bankValue, bankSlot, readBeyond}
 use Rattle.slot.specs.Guest.{showsThen}
 use Rattle.slot.specs.GuestLaws.{read-after-write, unowned-ignores}
-use Rattle.model.specs.Calls.{Distributor, read, write, plain, size, slotAfter, step, readReply, reply}
+use Rattle.model.specs.Calls.{Distributor, Call, read, write, plain, size, writtenAt, switched, slotAfter, step, afterWrite, readReply, reply}
 use Rattle.model.specs.Typed.{Typed}
 use Rattle.model.specs.ReadLaws.{shown-at-fits}
 
@@ -102,3 +103,55 @@ module _ (d : Distributor) (ok : Typed d) (offset : ℕ) (w : AccessWidth) (v pl
             (packed-same b (shownAt e n b (wrote .slots)) (λ i. fieldThen b i (field b x lo′ i)) lo′ m′
             (λ i low high. shown-then b i ∙ ap (fieldThen b i) (sym (packed-field b (shownAt e n b (d .slots)) (shown-at-fits d ok b) lo′ m′ i low high) ∙ ap (λ (y : ℕ). field b y lo′ i) z)))
         go (i ∷ is) h = cc
+
+-- ---- the registers that have no INTID
+
+-- TYPER, IIDR, the identification registers and what is reserved read the same whatever was called
+pub constants-stay : (k : Call) (d : Distributor)
+    → (readReply (step k d) (To Typer) ≡ readReply d (To Typer))
+    × (readReply (step k d) (To Iidr) ≡ readReply d (To Iidr))
+    × ((j : ℕ) → readReply (step k d) (To (Identification j)) ≡ readReply d (To (Identification j)))
+    × (readReply (step k d) (To Reserved) ≡ readReply d (To Reserved))
+unfolding step
+constants-stay k d = (refl, refl, (λ j. refl), refl)
+
+module _ (d : Distributor) (offset : ℕ) (w : AccessWidth) (v places : ℕ) where
+  abbrev at : Access
+  at = writeAccess places (size d) (d .config .«distributor_size») offset w
+
+  abbrev then : Distributor
+  then = step (write offset w v places) d
+
+  -- CTLR reads bit 1 of what was written to it, with ARE_NS, and no other bit
+  pub ctlr-after-ctlr : at ≡ To Ctlr → readReply then (To Ctlr) ≡ plain (done ((0x10 + 2 * (v / 2 % 2)) ∷ []))
+  unfolding step
+  ctlr-after-ctlr h = rw (h, ctlr-written v)
+
+  -- a write to a bank leaves CTLR
+  pub ctlr-after-bank : (b : Bank) (lo m : ℕ) → at ≡ To (Fields b lo m) → readReply then (To Ctlr) ≡ readReply d (To Ctlr)
+  unfolding step
+  ctlr-after-bank b lo m h = rw h
+
+  -- a write to CTLR leaves every bank
+  pub bank-after-ctlr : at ≡ To Ctlr → then .slots ≡ d .slots
+  unfolding step
+  bank-after-ctlr h = ap (λ (x : Access). afterWrite d x v .slots) h ∙ mapAt-still (λ p s. s) (d .slots) (λ p s. refl)
+
+  -- and a write to TYPER, IIDR, an identification register or what is reserved leaves everything
+  ignored : (a : Access) → at ≡ a → ((i : ℕ) (s : Slot) → writtenAt (d .config) (size d) a v i s ≡ s) → switched (d .config) (size d) a v (d .switch) ≡ d .switch → then ≡ d
+  unfolding step
+  ignored a h slot on =
+      ap (λ (x : Access). afterWrite d x v) h
+      ∙ (let kept = mapAt-still (λ p. writtenAt (d .config) (size d) a v (32 + p)) (d .slots) (λ p s. slot (32 + p) s) in λ j. record { config = d .config; switch = on j; count = d .count; slots = kept j })
+
+  pub typer-ignores : at ≡ To Typer → then ≡ d
+  typer-ignores h = ignored (To Typer) h (λ i s. refl) refl
+
+  pub iidr-ignores : at ≡ To Iidr → then ≡ d
+  iidr-ignores h = ignored (To Iidr) h (λ i s. refl) refl
+
+  pub identification-ignores : (j : ℕ) → at ≡ To (Identification j) → then ≡ d
+  identification-ignores j h = ignored (To (Identification j)) h (λ i s. refl) refl
+
+  pub reserved-ignores : at ≡ To Reserved → then ≡ d
+  reserved-ignores h = ignored (To Reserved) h (λ i s. refl) refl

@@ -7,7 +7,6 @@ use native.Mathlib.Omega.{arith}
 use lib.Pow.{pow-mono, pow-pos}
 use lib.ListN.{getD}
 use Rattle.identifiers.specs.Answer.{done, unless}
-use Rattle.attributes.specs.AffinityLaws.{Bytes}
 use Rattle.registers.specs.declared.register.AccessWidth.{AccessWidth}
 use Rattle.registers.specs.declared.register.AccessWidth.the-variants.{Byte, Word, Dword, Qword}
 use Rattle.bank.specs.declared.bank.Bank.{Bank}

@@ -19,7 +19,6 @@ use Rattle.attributes.specs.declared.attributes.GicAffinity.{GicAffinity}
 use Rattle.attributes.specs.declared.attributes.Priority.{Priority}
 use Rattle.attributes.specs.declared.attributes.TriggerMode.{TriggerMode}
 use Rattle.interrupt.specs.declared.interrupt.InterruptRecord.{InterruptRecord}
-use Rattle.interrupt.specs.Records.{fresh}
 use Rattle.operation.specs.declared.operation.Operation.{Operation}
 use Rattle.operation.specs.declared.operation.Operation.the-variants.{SetEnabled, SetPending, SetActive, SetPriority, SetTrigger, SetRoute, ClearRoute, Complete}
 use Rattle.operation.specs.Operation.{applied}

@@ -49,7 +49,7 @@ same : (a b : Bool) → (a ≡ true → b ≡ true) → (b ≡ true → a ≡ tr
 same true b f g = sym (f refl)
 same false b f g = sym (refuted b (λ e. let z : _≡_ {A = ℕ} 0 1 = cc (g e) in omega arith))
 
-in-words : (lo end o : ℕ) → words lo end o ≡ true ↔ (lo ≤ o) × (o < end) × (o % 4 ≡ 0)
+pub in-words : (lo end o : ℕ) → words lo end o ≡ true ↔ (lo ≤ o) × (o < end) × (o % 4 ≡ 0)
 in-words lo end o = (
   (λ e.
       let (inside, aligned) = both (within lo end o) _ e in
@@ -90,7 +90,7 @@ module _ {A : Type 0} (x y : A) (a b c o : ℕ) (p : a ≤ b) (q : b ≤ c) wher
       let h = in-words a c o .0 e in
       by-cases (decLe b o) (λ l. in-words b c o .1 (omega arith)) (λ l. let t = in-words a b o .1 (omega arith) in cc)
 
-  joined : cond (words a b o) x (cond (words b c o) x y) ≡ cond (words a c o) x y
+  pub joined : cond (words a b o) x (cond (words b c o) x y) ≡ cond (words a c o) x y
   joined = go (words a b o) (words b c o) refl refl
     where
       go : (s t : Bool) → words a b o ≡ s → words b c o ≡ t → cond s x (cond t x y) ≡ cond (words a c o) x y
@@ -106,7 +106,7 @@ under-words : (lo end o : ℕ) → o < lo → words lo end o ≡ false
 under-words lo end o h = rw (under lo end o h)
 
 -- the map's rows as nine ranges: the six flag banks from ISENABLER on are one
-ranges : {A : Type 0} (i c t r g f p n u none : A) (o : ℕ)
+pub ranges : {A : Type 0} (i c t r g f p n u none : A) (o : ℕ)
     → cond (inRow 0xffd0 0x10000 4 o) i (cond (inRow 0x0 0x1 1 o) c (cond (inRow 0x4 0x5 1 o) t (cond (inRow 0x8 0x9 1 o) r (cond (inRow 0x80 0x100 4 o) g
     (cond (inRow 0x100 0x180 4 o) f (cond (inRow 0x180 0x200 4 o) f (cond (inRow 0x200 0x280 4 o) f (cond (inRow 0x280 0x300 4 o) f (cond (inRow 0x300 0x380 4 o) f (cond (inRow 0x380 0x400 4 o) f
     (cond (inRow 0x400 0x7fc 1 o) p (cond (inRow 0xc00 0xd00 4 o) n (cond (inRow 0x6000 0x7fe0 1 o) u none)))))))))))))
