@@ -1,7 +1,7 @@
 -- What the guest reads, and what a write does, of every SPI: a row that is wrong breaks one of these laws even if the code has the same
 -- mistake.
 use Prim.Native.Nat.{ℕ, _^_, _<_}
-use mathlib.Core.Path.{_≡_, refl, _∙_}
+use mathlib.Core.Path.{_≡_, refl, ap, _∙_}
 use mathlib.Core.Bool.{Bool, true, false, _&&_, cond, and-true, and-false}
 use lib.Dec.{eqb}
 use Rattle.attributes.specs.Affinity.{mpidrOf}
@@ -25,7 +25,7 @@ use Rattle.changes.specs.declared.change.Change.the-variants.{Operate}
 use Rattle.slot.specs.declared.slot.Slot.{Slot}
 use Rattle.slot.specs.declared.effect.Effect.{Effect}
 use Rattle.slot.specs.declared.effect.Effect.the-variants.{Leave}
-use Rattle.slot.specs.Effects.{untouched}
+use Rattle.slot.specs.Effects.{touches, untouched}
 use Rattle.slot.specs.Slots.{showing, fieldWritten, fieldListed, changed}
 use Rattle.slot.specs.Guest.{showsThen, canList, readsDeliverable}
 use Rattle.slot.specs.GuestRows.{made, shown-after, record-row}
@@ -51,6 +51,10 @@ can-list (Replace Configuration) v = refl
 can-list (Replace Route) v = refl
 
 module _ (e : Bool) (s : Slot) where
+  -- a field touches an owned SPI, if it acts
+  touched : (a : Bank) (v : ℕ) {c : Bool} → owned e (s .ownership) ≡ c → touches e (s .ownership) a v ≡ (acts a v && c)
+  touched a v h = ap (λ (x : Bool). acts a v && x) h
+
   -- ---- every SPI
 
   -- GICD_IS..R<n> and GICD_IC..R<n> show the same
@@ -71,8 +75,8 @@ module _ (e : Bool) (s : Slot) where
   listed-exactly a v = go (owned e (s .ownership)) refl
     where
       go : (b : Bool) → owned e (s .ownership) ≡ b → fieldListed e a v s ≡ (canList a v && readsDeliverable e (fieldWritten e a v s))
-      go true mine = rw (mine, and-true (acts a v), lists-chosen (acts a v), can-list a v, deliverable-shown)
-      go false unowned = rw (unowned, and-false (acts a v), and-false (canList a v))
+      go true mine = rw (touched a v mine, and-true (acts a v), lists-chosen (acts a v), mine, can-list a v, deliverable-shown)
+      go false unowned = rw (touched a v unowned, and-false (acts a v), unowned, and-false (canList a v))
 
   -- ---- an SPI that is not owned
 
@@ -81,7 +85,7 @@ module _ (e : Bool) (s : Slot) where
     unowned-shows-0 b = rw unowned
 
     pub unowned-ignores : (a : Bank) (v : ℕ) → fieldWritten e a v s ≡ s
-    unowned-ignores a v = rw (unowned, and-false (acts a v))
+    unowned-ignores a v = rw (touched a v unowned, and-false (acts a v))
 
   -- ---- an owned SPI
 
@@ -89,7 +93,7 @@ module _ (e : Bool) (s : Slot) where
     -- what every bank shows after a write to every bank
     pub read-after-write : (a : Bank) (v : ℕ) (b : Bank) → v < 2 ^ bitsOf a
         → showing e b (fieldWritten e a v s) ≡ showsThen (line (s .interrupt .life)) (isLevel (s .interrupt)) (s .ownership .«fixed_route») a v b (showing e b s)
-    read-after-write a v b fits = rw (mine, and-true (acts a v), effect-chosen (acts a v)) (record-row (s .ownership .«fixed_route») a v b (s .interrupt) fits)
+    read-after-write a v b fits = rw (touched a v mine, and-true (acts a v), effect-chosen (acts a v), mine) (record-row (s .ownership .«fixed_route») a v b (s .interrupt) fits)
 
     -- ---- what a shown value means: it is what the host set
 
