@@ -1,12 +1,13 @@
 -- What a written field does to a record, as each bank shows it: `showsThen`, row by row. The laws of slots rest on it.
 use Prim.Native.Nat.{ℕ, zero, suc, _-_, _^_, _≤_, _<_, max}
 use mathlib.Core.Path.{_≡_, refl, sym, ap, _∙_}
-use mathlib.Core.Bool.{Bool, true, false, _&&_, _||_, cond, and-false}
+use mathlib.Core.Bool.{Bool, true, false, _&&_, _||_, cond, and-true, and-false}
 use native.Mathlib.Omega.{arith}
 use borrow.Author.Tests.{ne-eqb}
 use lib.Dec.{eqb}
 use Rattle.theory.specs.Bools.{bit-fits}
 use Rattle.attributes.specs.Affinity.{mpidrOf}
+use Rattle.attributes.specs.AffinityLaws.{mpidr-fromMpidr}
 use Rattle.attributes.specs.declared.attributes.GicAffinity.{GicAffinity}
 use Rattle.attributes.specs.declared.attributes.Priority as attributes
 use Rattle.attributes.specs.declared.attributes.TriggerMode.{TriggerMode}
@@ -24,12 +25,13 @@ use Rattle.bank.specs.declared.bank.Field.{Field}
 use Rattle.bank.specs.declared.bank.Field.the-variants.{Group, Priority, Configuration, Route}
 use Rattle.bank.specs.declared.bank.Bank.{Bank}
 use Rattle.bank.specs.declared.bank.Bank.the-variants.{Set, Clear, Replace}
-use Rattle.bank.specs.Banks.{bit, edgeField, bitsOf, shown, acts}
+use Rattle.bank.specs.Banks.{bit, edgeField, bitsOf, shown, acts, lists}
 use Rattle.bank.specs.RowLaws.{ISPENDR, upper-bit, route-shown}
+use Rattle.slot.specs.declared.effect.Effect.{Effect}
 use Rattle.slot.specs.declared.effect.Effect.the-variants.{Leave}
-use Rattle.slot.specs.Effects.{flagTo, effectOf}
+use Rattle.slot.specs.Effects.{flagTo, effectOf, untouched}
 use Rattle.slot.specs.Slots.{afterEffect}
-use Rattle.slot.specs.Guest.{flagNumber, fieldNumber, alike, itselfThen, showsThen}
+use Rattle.slot.specs.Guest.{flagNumber, fieldNumber, alike, itselfThen, showsThen, canList}
 
 abbrev pub made : Life → Settings → InterruptRecord → InterruptRecord
 made l g r = record { intid = r .intid; life = l; priority = g .0; trigger = g .1; routed = g .2; route = g .3; masked = g .4; «cpu_target_mask» = g .5 }
@@ -159,7 +161,7 @@ module _ (v : ℕ) (b : Bank) (r : InterruptRecord) where
   field-row fixed Priority h = priority-set _ b r ∙ own-row fixed Priority (omega arith)
   field-row fixed Configuration h = trigger-set _ b r ∙ own-row fixed Configuration (upper-bit v h)
   field-row true Route h = none-row (alike (Replace Route) b) refl ∙ own-row true Route refl
-  field-row false Route h = route-set _ b r ∙ own-row false Route (omega arith)
+  field-row false Route h = route-set _ b r ∙ own-row false Route (mpidr-fromMpidr v)
 
 -- a written field of an owned SPI, as a bank shows it
 pub record-row : (fixed : Bool) (a : Bank) (v : ℕ) (b : Bank) (r : InterruptRecord) → v < 2 ^ bitsOf a
@@ -175,3 +177,24 @@ record-row fixed (Clear f) (suc zero) (Clear g) r h = flag-row false f g fixed r
 record-row fixed (Clear f) (suc zero) (Replace x) r h = field-still false f x fixed r
 record-row fixed (Clear f) (suc (suc v)) b r h = absurd (omega arith)
 record-row fixed (Replace x) v b r h = field-row v b r fixed x h
+
+-- what a field does is its row if it acts, and nothing otherwise
+pub effect-chosen : (c : Bool) (e : Effect) (l : Bool) → (cond c (record { effect = e; lists = l }) untouched) .effect ≡ cond c e Leave
+effect-chosen true e l = refl
+effect-chosen false e l = refl
+
+pub lists-chosen : (c : Bool) (e : Effect) (l : Bool) → (cond c (record { effect = e; lists = l }) untouched) .lists ≡ (c && l)
+lists-chosen true e l = refl
+lists-chosen false e l = refl
+
+pub can-list : (a : Bank) (v : ℕ) → (acts a v && lists a) ≡ canList a v
+can-list (Set Enabled) v = and-true (eqb v 1)
+can-list (Set Pending) v = and-true (eqb v 1)
+can-list (Set Active) v = and-false (eqb v 1)
+can-list (Clear Enabled) v = and-false (eqb v 1)
+can-list (Clear Pending) v = and-false (eqb v 1)
+can-list (Clear Active) v = and-true (eqb v 1)
+can-list (Replace Group) v = refl
+can-list (Replace Priority) v = refl
+can-list (Replace Configuration) v = refl
+can-list (Replace Route) v = refl
