@@ -1,56 +1,45 @@
 -- What the guest reads, and what a write does, of every SPI: a row that is wrong breaks one of these laws even if the code has the same
 -- mistake.
 use Prim.Native.Nat.{ℕ, _^_, _<_}
-use mathlib.Core.Path.{_≡_, refl, _∙_}
+use mathlib.Core.Path.{_≡_, refl, ap, _∙_}
 use mathlib.Core.Bool.{Bool, true, false, _&&_, cond, and-true, and-false}
-use lib.Dec.{eqb}
+use mathlib.Core.List.{[], _∷_, map}
 use Rattle.attributes.specs.Affinity.{mpidrOf}
 use Rattle.attributes.specs.declared.attributes.GicAffinity.{GicAffinity}
 use Rattle.attributes.specs.declared.attributes.Priority as attributes
 use Rattle.attributes.specs.declared.attributes.TriggerMode.{TriggerMode}
 use Rattle.life.specs.Life.{line}
-use Rattle.interrupt.specs.Records.{isLevel}
+use Rattle.interrupt.specs.Records.{fresh, isLevel, routeIn}
 use Rattle.operation.specs.declared.operation.Operation.{Operation}
 use Rattle.operation.specs.declared.operation.Operation.the-variants.{SetEnabled, SetActive, SetPriority, SetTrigger, SetRoute, SetLevel, Pulse}
 use Rattle.operation.specs.Laws.{flagsAfter, settingsAfter}
 use Rattle.bank.specs.declared.bank.Flag.{Flag}
-use Rattle.bank.specs.declared.bank.Flag.the-variants.{Enabled, Pending, Active}
-use Rattle.bank.specs.declared.bank.Field.the-variants.{Group, Priority, Configuration, Route}
 use Rattle.bank.specs.declared.bank.Bank.{Bank}
-use Rattle.bank.specs.declared.bank.Bank.the-variants.{Set, Clear, Replace}
-use Rattle.bank.specs.Banks.{bit, bitsOf, shown, acts, lists}
-use Rattle.bank.specs.RowLaws.{ISENABLER, ISPENDR, ISACTIVER, IGROUPR, IPRIORITYR, ICFGR, IROUTER, route-shown, deliverable-shown}
+use Rattle.bank.specs.declared.bank.Bank.the-variants.{Set, Clear}
+use Rattle.bank.specs.Banks.{bit, bitsOf, shown, acts}
+use Rattle.bank.specs.RowLaws.{banks, ISENABLER, ISPENDR, ISACTIVER, IGROUPR, IPRIORITYR, ICFGR, IROUTER, route-shown, deliverable-shown}
 use Rattle.ownership.specs.Owned.{owned}
 use Rattle.changes.specs.declared.change.Change.the-variants.{Operate}
 use Rattle.slot.specs.declared.slot.Slot.{Slot}
-use Rattle.slot.specs.declared.effect.Effect.{Effect}
-use Rattle.slot.specs.declared.effect.Effect.the-variants.{Leave}
-use Rattle.slot.specs.Effects.{untouched}
-use Rattle.slot.specs.Slots.{showing, fieldWritten, fieldListed, changed}
+use Rattle.slot.specs.Effects.{touches}
+use Rattle.slot.specs.Slots.{freshSpi, showing, fieldWritten, fieldListed, changed}
 use Rattle.slot.specs.Guest.{showsThen, canList, readsDeliverable}
-use Rattle.slot.specs.GuestRows.{made, shown-after, record-row}
+use Rattle.slot.specs.GuestRows.{made, shown-after, record-row, effect-chosen, lists-chosen, can-list}
 
-effect-chosen : (c : Bool) (e : Effect) (l : Bool) → (cond c (record { effect = e; lists = l }) untouched) .effect ≡ cond c e Leave
-effect-chosen true e l = refl
-effect-chosen false e l = refl
+-- what a new SPI shows, bank by bank in the order of Arm's map: it is the guest's where all SPIs are, and its priority is 0x80
+pub fresh-shows : (raw : ℕ) → map (λ b. showing false b (freshSpi raw)) banks ≡ 1 ∷ 0 ∷ 0 ∷ 0 ∷ 0 ∷ 0 ∷ 0 ∷ 0x80 ∷ 0 ∷ 0 ∷ []
+unfolding fresh routeIn
+fresh-shows raw = refl
 
-lists-chosen : (c : Bool) (e : Effect) (l : Bool) → (cond c (record { effect = e; lists = l }) untouched) .lists ≡ (c && l)
-lists-chosen true e l = refl
-lists-chosen false e l = refl
-
-can-list : (a : Bank) (v : ℕ) → (acts a v && lists a) ≡ canList a v
-can-list (Set Enabled) v = and-true (eqb v 1)
-can-list (Set Pending) v = and-true (eqb v 1)
-can-list (Set Active) v = and-false (eqb v 1)
-can-list (Clear Enabled) v = and-false (eqb v 1)
-can-list (Clear Pending) v = and-false (eqb v 1)
-can-list (Clear Active) v = and-true (eqb v 1)
-can-list (Replace Group) v = refl
-can-list (Replace Priority) v = refl
-can-list (Replace Configuration) v = refl
-can-list (Replace Route) v = refl
+-- with explicit claims it is not
+pub fresh-unowned : (raw : ℕ) → owned true (freshSpi raw .ownership) ≡ false
+fresh-unowned raw = refl
 
 module _ (e : Bool) (s : Slot) where
+  -- a field touches an owned SPI, if it acts
+  touched : (a : Bank) (v : ℕ) {c : Bool} → owned e (s .ownership) ≡ c → touches e (s .ownership) a v ≡ (acts a v && c)
+  touched a v h = ap (λ (x : Bool). acts a v && x) h
+
   -- ---- every SPI
 
   -- GICD_IS..R<n> and GICD_IC..R<n> show the same
@@ -71,8 +60,8 @@ module _ (e : Bool) (s : Slot) where
   listed-exactly a v = go (owned e (s .ownership)) refl
     where
       go : (b : Bool) → owned e (s .ownership) ≡ b → fieldListed e a v s ≡ (canList a v && readsDeliverable e (fieldWritten e a v s))
-      go true mine = rw (mine, and-true (acts a v), lists-chosen (acts a v), can-list a v, deliverable-shown)
-      go false unowned = rw (unowned, and-false (acts a v), and-false (canList a v))
+      go true mine = rw (touched a v mine, and-true (acts a v), lists-chosen (acts a v), mine, can-list a v, deliverable-shown)
+      go false unowned = rw (touched a v unowned, and-false (acts a v), unowned, and-false (canList a v))
 
   -- ---- an SPI that is not owned
 
@@ -81,7 +70,7 @@ module _ (e : Bool) (s : Slot) where
     unowned-shows-0 b = rw unowned
 
     pub unowned-ignores : (a : Bank) (v : ℕ) → fieldWritten e a v s ≡ s
-    unowned-ignores a v = rw (unowned, and-false (acts a v))
+    unowned-ignores a v = rw (touched a v unowned, and-false (acts a v))
 
   -- ---- an owned SPI
 
@@ -89,7 +78,7 @@ module _ (e : Bool) (s : Slot) where
     -- what every bank shows after a write to every bank
     pub read-after-write : (a : Bank) (v : ℕ) (b : Bank) → v < 2 ^ bitsOf a
         → showing e b (fieldWritten e a v s) ≡ showsThen (line (s .interrupt .life)) (isLevel (s .interrupt)) (s .ownership .«fixed_route») a v b (showing e b s)
-    read-after-write a v b fits = rw (mine, and-true (acts a v), effect-chosen (acts a v)) (record-row (s .ownership .«fixed_route») a v b (s .interrupt) fits)
+    read-after-write a v b fits = rw (touched a v mine, and-true (acts a v), effect-chosen (acts a v), mine) (record-row (s .ownership .«fixed_route») a v b (s .interrupt) fits)
 
     -- ---- what a shown value means: it is what the host set
 

@@ -1,13 +1,16 @@
 -- What a written field does to a record, as each bank shows it: `showsThen`, row by row. The laws of slots rest on it.
-use Prim.Native.Nat.{ℕ, zero, suc, _-_, _%_, _^_, _≤_, _<_, max}
+use Prim.Native.Nat.{ℕ, zero, suc, _-_, _^_, _≤_, _<_, max}
 use mathlib.Core.Path.{_≡_, refl, sym, ap, _∙_}
-use mathlib.Core.Bool.{Bool, true, false, _&&_, _||_, cond, and-false}
+use mathlib.Core.Bool.{Bool, true, false, _&&_, _||_, cond, and-true, and-false}
 use native.Mathlib.Omega.{arith}
 use borrow.Author.Tests.{ne-eqb}
 use lib.Dec.{eqb}
 use Rattle.theory.specs.Bools.{bit-fits}
-use Rattle.attributes.specs.Affinity.{fromMpidr}
+use Rattle.attributes.specs.Affinity.{mpidrOf}
 use Rattle.attributes.specs.AffinityLaws.{mpidr-fromMpidr}
+use Rattle.attributes.specs.declared.attributes.GicAffinity.{GicAffinity}
+use Rattle.attributes.specs.declared.attributes.Priority as attributes
+use Rattle.attributes.specs.declared.attributes.TriggerMode.{TriggerMode}
 use Rattle.life.specs.Life.{line}
 use Rattle.life.specs.declared.life.Life.{Life}
 use Rattle.interrupt.specs.declared.interrupt.InterruptRecord.{InterruptRecord}
@@ -22,12 +25,13 @@ use Rattle.bank.specs.declared.bank.Field.{Field}
 use Rattle.bank.specs.declared.bank.Field.the-variants.{Group, Priority, Configuration, Route}
 use Rattle.bank.specs.declared.bank.Bank.{Bank}
 use Rattle.bank.specs.declared.bank.Bank.the-variants.{Set, Clear, Replace}
-use Rattle.bank.specs.Banks.{bit, triggerIn, bitsOf, shown, acts}
+use Rattle.bank.specs.Banks.{bit, edgeField, bitsOf, shown, acts, lists}
 use Rattle.bank.specs.RowLaws.{ISPENDR, upper-bit, route-shown}
+use Rattle.slot.specs.declared.effect.Effect.{Effect}
 use Rattle.slot.specs.declared.effect.Effect.the-variants.{Leave}
-use Rattle.slot.specs.Effects.{flagTo, effectOf}
+use Rattle.slot.specs.Effects.{flagTo, effectOf, untouched}
 use Rattle.slot.specs.Slots.{afterEffect}
-use Rattle.slot.specs.Guest.{flagNumber, fieldNumber, alike, itselfThen, showsThen}
+use Rattle.slot.specs.Guest.{flagNumber, fieldNumber, alike, itselfThen, showsThen, canList}
 
 abbrev pub made : Life → Settings → InterruptRecord → InterruptRecord
 made l g r = record { intid = r .intid; life = l; priority = g .0; trigger = g .1; routed = g .2; route = g .3; masked = g .4; «cpu_target_mask» = g .5 }
@@ -119,42 +123,45 @@ flag-kept Enabled t r = refl
 flag-kept Pending t r = refl
 flag-kept Active t r = refl
 
--- a write to a field shows in no other bank
-module _ (line level fixed : Bool) (x : Field) (v : ℕ) (b : Bank) (old : ℕ) where
-  unpended : cond (alike (Replace x) b) (itselfThen fixed (Replace x) v old) old ≡ showsThen line level fixed (Replace x) v b old
-  unpended = rw (and-false (eqb v 1 && alike ISPENDR b))
+-- what is set shows in its own bank, and the other banks show what they showed
+priority-set : (p : attributes.Priority) (b : Bank) (r : InterruptRecord) → shown b (applied (SetPriority p) r) ≡ cond (alike (Replace Priority) b) (p .0) (shown b r)
+priority-set p (Set g) r = rw (field-apart Priority g) (shown-after (Set g) (SetPriority p) r ∙ flag-kept g _ r)
+priority-set p (Clear g) r = rw (field-apart Priority g) (shown-after (Set g) (SetPriority p) r ∙ flag-kept g _ r)
+priority-set p (Replace Group) r = shown-after (Replace Group) (SetPriority p) r
+priority-set p (Replace Priority) r = shown-after (Replace Priority) (SetPriority p) r
+priority-set p (Replace Configuration) r = shown-after (Replace Configuration) (SetPriority p) r
+priority-set p (Replace Route) r = shown-after (Replace Route) (SetPriority p) r ∙ route-shown (made (r .life) (settingsAfter (SetPriority p) r) r) ∙ sym (route-shown r)
 
-  elsewhere : alike (Replace x) b ≡ false → old ≡ showsThen line level fixed (Replace x) v b old
-  elsewhere e = rw (e, and-false (eqb v 1 && alike ISPENDR b))
+trigger-set : (t : TriggerMode) (b : Bank) (r : InterruptRecord) → shown b (applied (SetTrigger t) r) ≡ cond (alike (Replace Configuration) b) (edgeField t) (shown b r)
+trigger-set t (Set g) r = rw (field-apart Configuration g) (shown-after (Set g) (SetTrigger t) r ∙ flag-kept g _ r)
+trigger-set t (Clear g) r = rw (field-apart Configuration g) (shown-after (Set g) (SetTrigger t) r ∙ flag-kept g _ r)
+trigger-set t (Replace Group) r = shown-after (Replace Group) (SetTrigger t) r
+trigger-set t (Replace Priority) r = shown-after (Replace Priority) (SetTrigger t) r
+trigger-set t (Replace Configuration) r = shown-after (Replace Configuration) (SetTrigger t) r
+trigger-set t (Replace Route) r = shown-after (Replace Route) (SetTrigger t) r ∙ route-shown (made (r .life) (settingsAfter (SetTrigger t) r) r) ∙ sym (route-shown r)
 
--- a route: fixed, or not
-module _ (v : ℕ) (r : InterruptRecord) where
-  route-row : (fixed : Bool) (b : Bank) → shown b (afterEffect (effectOf fixed (Replace Route) v) r) ≡ showsThen (line (r .life)) (isLevel r) fixed (Replace Route) v b (shown b r)
-  route-row true b = none-row (alike (Replace Route) b) refl ∙ unpended (line (r .life)) (isLevel r) true Route v b (shown b r)
-  route-row false (Set g) = shown-after (Set g) (SetRoute (fromMpidr v)) r ∙ flag-kept g (settingsAfter (SetRoute (fromMpidr v)) r) r ∙ elsewhere (line (r .life)) (isLevel r) false Route v (Set g) (shown (Set g) r) (field-apart Route g)
-  route-row false (Clear g) = shown-after (Clear g) (SetRoute (fromMpidr v)) r ∙ flag-kept g (settingsAfter (SetRoute (fromMpidr v)) r) r ∙ elsewhere (line (r .life)) (isLevel r) false Route v (Clear g) (shown (Clear g) r) (field-apart Route g)
-  route-row false (Replace Group) = shown-after (Replace Group) (SetRoute (fromMpidr v)) r ∙ elsewhere (line (r .life)) (isLevel r) false Route v (Replace Group) (shown (Replace Group) r) refl
-  route-row false (Replace Priority) = shown-after (Replace Priority) (SetRoute (fromMpidr v)) r ∙ elsewhere (line (r .life)) (isLevel r) false Route v (Replace Priority) (shown (Replace Priority) r) refl
-  route-row false (Replace Configuration) = shown-after (Replace Configuration) (SetRoute (fromMpidr v)) r ∙ elsewhere (line (r .life)) (isLevel r) false Route v (Replace Configuration) (shown (Replace Configuration) r) refl
-  route-row false (Replace Route) = shown-after (Replace Route) (SetRoute (fromMpidr v)) r ∙ route-shown (made (r .life) (settingsAfter (SetRoute (fromMpidr v)) r) r) ∙ mpidr-fromMpidr v ∙ unpended (line (r .life)) (isLevel r) false Route v (Replace Route) (shown (Replace Route) r)
+route-set : (a : GicAffinity) (b : Bank) (r : InterruptRecord) → shown b (applied (SetRoute a) r) ≡ cond (alike (Replace Route) b) (mpidrOf a) (shown b r)
+route-set a (Set g) r = rw (field-apart Route g) (shown-after (Set g) (SetRoute a) r ∙ flag-kept g _ r)
+route-set a (Clear g) r = rw (field-apart Route g) (shown-after (Set g) (SetRoute a) r ∙ flag-kept g _ r)
+route-set a (Replace Group) r = shown-after (Replace Group) (SetRoute a) r
+route-set a (Replace Priority) r = shown-after (Replace Priority) (SetRoute a) r
+route-set a (Replace Configuration) r = shown-after (Replace Configuration) (SetRoute a) r
+route-set a (Replace Route) r = shown-after (Replace Route) (SetRoute a) r ∙ route-shown (made (r .life) (settingsAfter (SetRoute a) r) r)
 
-module _ (fixed : Bool) (v : ℕ) (r : InterruptRecord) where
-  field-row : (x : Field) (b : Bank) → v < 2 ^ bitsOf (Replace x)
+-- a field
+module _ (v : ℕ) (b : Bank) (r : InterruptRecord) where
+  -- the written bank shows w, and no write to a field makes pending
+  own-row : (fixed : Bool) (x : Field) {w : ℕ} → w ≡ itselfThen fixed (Replace x) v (shown b r)
+      → cond (alike (Replace x) b) w (shown b r) ≡ showsThen (line (r .life)) (isLevel r) fixed (Replace x) v b (shown b r)
+  own-row fixed x e = rw (e, and-false (eqb v 1 && alike ISPENDR b))
+
+  field-row : (fixed : Bool) (x : Field) → v < 2 ^ bitsOf (Replace x)
       → shown b (afterEffect (cond (acts (Replace x) v) (effectOf fixed (Replace x) v) Leave) r) ≡ showsThen (line (r .life)) (isLevel r) fixed (Replace x) v b (shown b r)
-  field-row Group b h = none-row (alike (Replace Group) b) refl ∙ unpended (line (r .life)) (isLevel r) fixed Group v b (shown b r)
-  field-row Priority (Set g) h = shown-after (Set g) (SetPriority (record { 0 = v % 256 })) r ∙ flag-kept g (settingsAfter (SetPriority (record { 0 = v % 256 })) r) r ∙ elsewhere (line (r .life)) (isLevel r) fixed Priority v (Set g) (shown (Set g) r) (field-apart Priority g)
-  field-row Priority (Clear g) h = shown-after (Clear g) (SetPriority (record { 0 = v % 256 })) r ∙ flag-kept g (settingsAfter (SetPriority (record { 0 = v % 256 })) r) r ∙ elsewhere (line (r .life)) (isLevel r) fixed Priority v (Clear g) (shown (Clear g) r) (field-apart Priority g)
-  field-row Priority (Replace Group) h = shown-after (Replace Group) (SetPriority (record { 0 = v % 256 })) r ∙ elsewhere (line (r .life)) (isLevel r) fixed Priority v (Replace Group) (shown (Replace Group) r) refl
-  field-row Priority (Replace Priority) h = shown-after (Replace Priority) (SetPriority (record { 0 = v % 256 })) r ∙ omega arith ∙ unpended (line (r .life)) (isLevel r) fixed Priority v (Replace Priority) (shown (Replace Priority) r)
-  field-row Priority (Replace Configuration) h = shown-after (Replace Configuration) (SetPriority (record { 0 = v % 256 })) r ∙ elsewhere (line (r .life)) (isLevel r) fixed Priority v (Replace Configuration) (shown (Replace Configuration) r) refl
-  field-row Priority (Replace Route) h = shown-after (Replace Route) (SetPriority (record { 0 = v % 256 })) r ∙ route-shown (made (r .life) (settingsAfter (SetPriority (record { 0 = v % 256 })) r) r) ∙ sym (route-shown r) ∙ elsewhere (line (r .life)) (isLevel r) fixed Priority v (Replace Route) (shown (Replace Route) r) refl
-  field-row Configuration (Set g) h = shown-after (Set g) (SetTrigger (triggerIn v)) r ∙ flag-kept g (settingsAfter (SetTrigger (triggerIn v)) r) r ∙ elsewhere (line (r .life)) (isLevel r) fixed Configuration v (Set g) (shown (Set g) r) (field-apart Configuration g)
-  field-row Configuration (Clear g) h = shown-after (Clear g) (SetTrigger (triggerIn v)) r ∙ flag-kept g (settingsAfter (SetTrigger (triggerIn v)) r) r ∙ elsewhere (line (r .life)) (isLevel r) fixed Configuration v (Clear g) (shown (Clear g) r) (field-apart Configuration g)
-  field-row Configuration (Replace Group) h = shown-after (Replace Group) (SetTrigger (triggerIn v)) r ∙ elsewhere (line (r .life)) (isLevel r) fixed Configuration v (Replace Group) (shown (Replace Group) r) refl
-  field-row Configuration (Replace Priority) h = shown-after (Replace Priority) (SetTrigger (triggerIn v)) r ∙ elsewhere (line (r .life)) (isLevel r) fixed Configuration v (Replace Priority) (shown (Replace Priority) r) refl
-  field-row Configuration (Replace Configuration) h = shown-after (Replace Configuration) (SetTrigger (triggerIn v)) r ∙ upper-bit v h ∙ unpended (line (r .life)) (isLevel r) fixed Configuration v (Replace Configuration) (shown (Replace Configuration) r)
-  field-row Configuration (Replace Route) h = shown-after (Replace Route) (SetTrigger (triggerIn v)) r ∙ route-shown (made (r .life) (settingsAfter (SetTrigger (triggerIn v)) r) r) ∙ sym (route-shown r) ∙ elsewhere (line (r .life)) (isLevel r) fixed Configuration v (Replace Route) (shown (Replace Route) r) refl
-  field-row Route b h = route-row v r fixed b
+  field-row fixed Group h = none-row (alike (Replace Group) b) refl ∙ own-row fixed Group refl
+  field-row fixed Priority h = priority-set _ b r ∙ own-row fixed Priority (omega arith)
+  field-row fixed Configuration h = trigger-set _ b r ∙ own-row fixed Configuration (upper-bit v h)
+  field-row true Route h = none-row (alike (Replace Route) b) refl ∙ own-row true Route refl
+  field-row false Route h = route-set _ b r ∙ own-row false Route (mpidr-fromMpidr v)
 
 -- a written field of an owned SPI, as a bank shows it
 pub record-row : (fixed : Bool) (a : Bank) (v : ℕ) (b : Bank) (r : InterruptRecord) → v < 2 ^ bitsOf a
@@ -169,4 +176,25 @@ record-row fixed (Clear f) (suc zero) (Set g) r h = flag-row false f g fixed r
 record-row fixed (Clear f) (suc zero) (Clear g) r h = flag-row false f g fixed r
 record-row fixed (Clear f) (suc zero) (Replace x) r h = field-still false f x fixed r
 record-row fixed (Clear f) (suc (suc v)) b r h = absurd (omega arith)
-record-row fixed (Replace x) v b r h = field-row fixed v r x b h
+record-row fixed (Replace x) v b r h = field-row v b r fixed x h
+
+-- what a field does is its row if it acts, and nothing otherwise
+pub effect-chosen : (c : Bool) (e : Effect) (l : Bool) → (cond c (record { effect = e; lists = l }) untouched) .effect ≡ cond c e Leave
+effect-chosen true e l = refl
+effect-chosen false e l = refl
+
+pub lists-chosen : (c : Bool) (e : Effect) (l : Bool) → (cond c (record { effect = e; lists = l }) untouched) .lists ≡ (c && l)
+lists-chosen true e l = refl
+lists-chosen false e l = refl
+
+pub can-list : (a : Bank) (v : ℕ) → (acts a v && lists a) ≡ canList a v
+can-list (Set Enabled) v = and-true (eqb v 1)
+can-list (Set Pending) v = and-true (eqb v 1)
+can-list (Set Active) v = and-false (eqb v 1)
+can-list (Clear Enabled) v = and-false (eqb v 1)
+can-list (Clear Pending) v = and-false (eqb v 1)
+can-list (Clear Active) v = and-true (eqb v 1)
+can-list (Replace Group) v = refl
+can-list (Replace Priority) v = refl
+can-list (Replace Configuration) v = refl
+can-list (Replace Route) v = refl
