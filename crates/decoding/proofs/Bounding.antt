@@ -24,6 +24,7 @@ use Rattle.registers.specs.MapLaws.{between}
 use Rattle.registers.proofs.Rows.{every, sized}
 use Rattle.registers.proofs.Widths.{bytes-range}
 use Rattle.decoding.specs.Decoding.{legal, decode}
+use Rattle.decoding.specs.RefusalLaws.{legal-when}
 use Rattle.decoding.specs.Bounds.{Bounded, Whole}
 
 fields-bounded : (b : Bank) (at : ℕ) (w : AccessWidth) → at < 0x2000 → Bounded (Fields b (at * 8 / bitsOf b) (bytesOf w * 8 / bitsOf b))
@@ -162,5 +163,5 @@ unfolding decode every whole startsWhole allows
 decode-whole frame o w g e = go (legal frame o w) refl e
   where
     go : (h : Bool) → legal frame o w ≡ h → cond h (lookup Reading map o w) (Refused InvalidAccess) ≡ To g → Whole g
-    go true l f = lookup-each Whole tt Reading o w map (each-whole map refl o w (eqb-true (o % bytesOf w) 0 (both (leb (o + bytesOf w) frame) _ l .1))) g f
+    go true l f = lookup-each Whole tt Reading o w map (each-whole map refl o w (legal-when frame o w .0 l .1)) g f
     go false l f = let z : _≡_ {A = ℕ} 0 1 = cc in absurd (omega arith)

@@ -43,6 +43,29 @@ needsDword Writing o = words 0xffd0 0x10000 o || eqb o 0x0 || words 0x100 0x400 
 abbrev pub needsAnother : Direction → ℕ → AccessWidth → Bool
 needsAnother d o w = cond (needsDword d o) (not (eqb (bytesOf w) 4)) (within 0x6000 0x7fe0 o && not (eqb (bytesOf w) 8))
 
+-- such an access is refused 4; any other reaches the register
+abbrev pub taken : Direction → ℕ → AccessWidth → Register → Access
+taken d o w g = cond (needsAnother d o w) (Refused InvalidWidth) (To g)
+
+-- ---- the registers with no INTID
+
+-- CTLR lies at 0x0, TYPER at 0x4, IIDR at 0x8
+pub fixed-places : (d : Direction) (w : AccessWidth)
+    → (lookup d map 0x0 w ≡ taken d 0x0 w Ctlr) × (lookup d map 0x4 w ≡ taken d 0x4 w Typer) × (lookup d map 0x8 w ≡ taken d 0x8 w Iidr)
+fixed-places Reading Byte = (refl, refl, refl)
+fixed-places Reading Word = (refl, refl, refl)
+fixed-places Reading Dword = (refl, refl, refl)
+fixed-places Reading Qword = (refl, refl, refl)
+fixed-places Writing Byte = (refl, refl, refl)
+fixed-places Writing Word = (refl, refl, refl)
+fixed-places Writing Dword = (refl, refl, refl)
+fixed-places Writing Qword = (refl, refl, refl)
+
+-- the twelve identification registers lie from 0xffd0 on, one each word
+pub identification-places : (d : Direction) (k : ℕ) → k < 12 → lookup d map (0xffd0 + 4 * k) Dword ≡ To (Identification k)
+identification-places Reading = everywhere (λ k. lookup Reading map (0xffd0 + 4 * k) Dword) (λ k. To (Identification k)) 12 refl
+identification-places Writing = everywhere (λ k. lookup Writing map (0xffd0 + 4 * k) Dword) (λ k. To (Identification k)) 12 refl
+
 -- ---- ranges of offsets
 
 same : (a b : Bool) → (a ≡ true → b ≡ true) → (b ≡ true → a ≡ true) → a ≡ b
@@ -118,8 +141,54 @@ ranges i c t r g f p n u none o =
     (rw (row-bytes 0x400 0x7fc o, row-words 0xc00 0xd00 o refl, row-bytes 0x6000 0x7fe0 o)
     (rw (joined f _ 0x300 0x380 0x400 o (omega arith) (omega arith), joined f _ 0x280 0x300 0x400 o (omega arith) (omega arith), joined f _ 0x200 0x280 0x400 o (omega arith) (omega arith), joined f _ 0x180 0x200 0x400 o (omega arith) (omega arith), joined f _ 0x100 0x180 0x400 o (omega arith) (omega arith)))))
 
+-- two tests that decide alike
+merged : {A : Type 0} (h k : Bool) (x y : A) → cond h x (cond k x y) ≡ cond (h || k) x y
+merged true k x y = refl
+merged false k x y = refl
+
+-- ---- everything else is reserved
+
+-- a row holds the offset
+held : List Row → ℕ → Bool
+held [] o = false
+held (r ∷ rs) o = cond (holds r o) true (held rs o)
+
+no-reserved : (k : Kind) (at : ℕ) (w : AccessWidth) → registerAt k at w ≡ Reserved → ⊥
+no-reserved identification at w e = let z : _≡_ {A = ℕ} 0 1 = cc in omega arith
+no-reserved ctlr at w e = let z : _≡_ {A = ℕ} 0 1 = cc in omega arith
+no-reserved typer at w e = let z : _≡_ {A = ℕ} 0 1 = cc in omega arith
+no-reserved iidr at w e = let z : _≡_ {A = ℕ} 0 1 = cc in omega arith
+no-reserved (bank b) at w e = let z : _≡_ {A = ℕ} 0 1 = cc in omega arith
+
+unheld : (d : Direction) (rs : List Row) (o : ℕ) (w : AccessWidth) → lookup d rs o w ≡ To Reserved ↔ held rs o ≡ false
+unfolding held
+unheld d [] o w = ((λ e. refl), (λ e. refl))
+unheld d (r ∷ rs) o w = go (holds r o) (takes (widthsFor d (r .reads) (r .writes)) w) (unheld d rs o w)
+  where
+    go : (h t : Bool) → (lookup d rs o w ≡ To Reserved ↔ held rs o ≡ false)
+        → cond h (cond t (To (registerAt (r .kind) (o - r .from) w)) (Refused InvalidWidth)) (lookup d rs o w) ≡ To Reserved ↔ cond h true (held rs o) ≡ false
+    go true true e = ((λ p. let q : registerAt (r .kind) (o - r .from) w ≡ Reserved = cc in absurd (no-reserved (r .kind) (o - r .from) w q)), (λ p. cc))
+    go true false e = ((λ p. cc), (λ p. cc))
+    go false t e = e
+
+held-is : (o : ℕ) → held map o ≡ isRegister o
+unfolding held
+held-is o =
+    ranges true true true true true true true true true false o
+    ∙ rw (joined true _ 0x80 0x100 0x400 o (omega arith) (omega arith), merged (words 0xffd0 0x10000 o) (eqb o 0), merged _ (eqb o 4), merged _ (eqb o 8), merged _ (words 0x80 0x400 o), merged _ (within 0x400 0x7fc o), merged _ (words 0xc00 0xd00 o), merged _ (within 0x6000 0x7fe0 o))
+    (whole (isRegister o))
+  where
+    whole : (b : Bool) → cond b true false ≡ b
+    whole true = refl
+    whole false = refl
+
+-- an access reads 0 and ignores writes exactly where no register lies, at any width and in both directions
+pub reserved : (d : Direction) (o : ℕ) (w : AccessWidth) → lookup d map o w ≡ To Reserved ↔ isRegister o ≡ false
+reserved d o w = rw (← held-is o) (unheld d map o w)
+
 -- ---- which width is needed
 
+-- the row that holds the offset takes another width
 refuses : Direction → List Row → ℕ → AccessWidth → Bool
 refuses d [] o w = false
 refuses d (r ∷ rs) o w = cond (holds r o) (not (takes (widthsFor d (r .reads) (r .writes)) w)) (refuses d rs o w)
@@ -157,10 +226,6 @@ only-qword Qword = refl
 passed : (h x : Bool) → (h ≡ true → x ≡ false) → cond h false x ≡ x
 passed true x f = sym (f refl)
 passed false x f = refl
-
-merged : {A : Type 0} (h k : Bool) (x y : A) → cond h x (cond k x y) ≡ cond (h || k) x y
-merged true k x y = refl
-merged false k x y = refl
 
 and-cond : (h x : Bool) → cond h x false ≡ (h && x)
 and-cond true x = refl
@@ -203,10 +268,7 @@ module _ (o : ℕ) (w : AccessWidth) where
       ∙ rw (ipriorityr-passed, igroupr-passed, one-passed 8 (omega arith), one-passed 4 (omega arith))
       (rw (merged (words 0xffd0 0x10000 o) (eqb o 0), merged _ (words 0x100 0x400 o), merged _ (words 0xc00 0xd00 o), and-cond (within 0x6000 0x7fe0 o), only-dword w, only-qword w))
 
--- so a register is reached, or the access is refused 4
-abbrev pub taken : Direction → ℕ → AccessWidth → Register → Access
-taken d o w g = cond (needsAnother d o w) (Refused InvalidWidth) (To g)
-
+-- refused 4, or a register, and no other refusal
 pub width-decides : (d : Direction) (o : ℕ) (w : AccessWidth) → lookup d map o w ≡ taken d o w (reached (lookup d map o w))
 width-decides d o w = rw (← refuses-is o w d) (decided d map o w)
 
@@ -216,61 +278,3 @@ width-refused d o w = go (needsAnother d o w) (width-decides d o w)
     go : (b : Bool) → lookup d map o w ≡ cond b (Refused InvalidWidth) (To (reached (lookup d map o w))) → lookup d map o w ≡ Refused InvalidWidth ↔ b ≡ true
     go true e = ((λ r. refl), (λ t. e))
     go false e = ((λ r. cc), (λ t. cc))
-
--- ---- everything else is reserved
-
-held : List Row → ℕ → Bool
-held [] o = false
-held (r ∷ rs) o = cond (holds r o) true (held rs o)
-
-no-reserved : (k : Kind) (at : ℕ) (w : AccessWidth) → registerAt k at w ≡ Reserved → ⊥
-no-reserved identification at w e = let z : _≡_ {A = ℕ} 0 1 = cc in omega arith
-no-reserved ctlr at w e = let z : _≡_ {A = ℕ} 0 1 = cc in omega arith
-no-reserved typer at w e = let z : _≡_ {A = ℕ} 0 1 = cc in omega arith
-no-reserved iidr at w e = let z : _≡_ {A = ℕ} 0 1 = cc in omega arith
-no-reserved (bank b) at w e = let z : _≡_ {A = ℕ} 0 1 = cc in omega arith
-
-unheld : (d : Direction) (rs : List Row) (o : ℕ) (w : AccessWidth) → lookup d rs o w ≡ To Reserved ↔ held rs o ≡ false
-unfolding held
-unheld d [] o w = ((λ e. refl), (λ e. refl))
-unheld d (r ∷ rs) o w = go (holds r o) (takes (widthsFor d (r .reads) (r .writes)) w) (unheld d rs o w)
-  where
-    go : (h t : Bool) → (lookup d rs o w ≡ To Reserved ↔ held rs o ≡ false)
-        → cond h (cond t (To (registerAt (r .kind) (o - r .from) w)) (Refused InvalidWidth)) (lookup d rs o w) ≡ To Reserved ↔ cond h true (held rs o) ≡ false
-    go true true e = ((λ p. let q : registerAt (r .kind) (o - r .from) w ≡ Reserved = cc in absurd (no-reserved (r .kind) (o - r .from) w q)), (λ p. cc))
-    go true false e = ((λ p. cc), (λ p. cc))
-    go false t e = e
-
-held-is : (o : ℕ) → held map o ≡ isRegister o
-unfolding held
-held-is o =
-    ranges true true true true true true true true true false o
-    ∙ rw (joined true _ 0x80 0x100 0x400 o (omega arith) (omega arith), merged (words 0xffd0 0x10000 o) (eqb o 0), merged _ (eqb o 4), merged _ (eqb o 8), merged _ (words 0x80 0x400 o), merged _ (within 0x400 0x7fc o), merged _ (words 0xc00 0xd00 o), merged _ (within 0x6000 0x7fe0 o))
-    (whole (isRegister o))
-  where
-    whole : (b : Bool) → cond b true false ≡ b
-    whole true = refl
-    whole false = refl
-
--- an access reads 0 and ignores writes exactly where no register lies, at any width and in both directions
-pub reserved : (d : Direction) (o : ℕ) (w : AccessWidth) → lookup d map o w ≡ To Reserved ↔ isRegister o ≡ false
-reserved d o w = rw (← held-is o) (unheld d map o w)
-
--- ---- the registers with no INTID
-
--- CTLR, TYPER and IIDR
-pub fixed-places : (d : Direction) (w : AccessWidth)
-    → (lookup d map 0x0 w ≡ taken d 0x0 w Ctlr) × (lookup d map 0x4 w ≡ taken d 0x4 w Typer) × (lookup d map 0x8 w ≡ taken d 0x8 w Iidr)
-fixed-places Reading Byte = (refl, refl, refl)
-fixed-places Reading Word = (refl, refl, refl)
-fixed-places Reading Dword = (refl, refl, refl)
-fixed-places Reading Qword = (refl, refl, refl)
-fixed-places Writing Byte = (refl, refl, refl)
-fixed-places Writing Word = (refl, refl, refl)
-fixed-places Writing Dword = (refl, refl, refl)
-fixed-places Writing Qword = (refl, refl, refl)
-
--- the twelve identification registers
-pub identification-places : (d : Direction) (k : ℕ) → k < 12 → lookup d map (0xffd0 + 4 * k) Dword ≡ To (Identification k)
-identification-places Reading = everywhere (λ k. lookup Reading map (0xffd0 + 4 * k) Dword) (λ k. To (Identification k)) 12 refl
-identification-places Writing = everywhere (λ k. lookup Writing map (0xffd0 + 4 * k) Dword) (λ k. To (Identification k)) 12 refl
