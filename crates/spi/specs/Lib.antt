@@ -1,3 +1,4 @@
 pub mod ChangeAnswers
 pub mod ChangeLaws
 pub mod Questions
+pub mod QuestionLaws
