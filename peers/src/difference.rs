@@ -31,7 +31,7 @@ pub enum Kind {
     Refused(u8),
     /// This bit is read as 1 on one side only.
     Bit { bit: u32, here: bool },
-    /// TYPER's number of lines.
+    /// `GICD_TYPER.ITLinesNumber`.
     Lines { here: u64, peer: u64 },
     /// An SPI's bit in IGROUPR is 1 on one side only.
     Group { here: bool },
@@ -108,18 +108,18 @@ pub const ELSEWHERE: &str = "elsewhere";
 const LATCH: &str = "Line and latch share one pending bit";
 const EDGE: &str = "An edge line pends without rising";
 const MORE: &str = "Four more of line and latch";
-const BIT_31: &str = "IROUTER drops bit 31, though TYPER bit 25 is 0";
-const GROUPS: &str = "IGROUPR shows ownership";
-const DS: &str = "DS in CTLR reads 0";
+const BIT_31: &str = "`GICD_IROUTER<n>` drops bit 31, though bit 25 of `GICD_TYPER` is 0";
+const GROUPS: &str = "`GICD_IGROUPR<n>` shows ownership";
+const DS: &str = "`GICD_CTLR.DS` reads 0";
 const GROUP_0: &str = "No enable for group 0";
-const PRIORITY_WIDTHS: &str = "IPRIORITYR takes Word and Qword";
-const ROUTE_DWORD: &str = "IROUTER refuses Dword";
+const PRIORITY_WIDTHS: &str = "`GICD_IPRIORITYR<n>` takes Word and Qword";
+const ROUTE_DWORD: &str = "`GICD_IROUTER<n>` refuses Dword";
 const WIDTH: &str = "A wrong width is refused";
 const FRAME: &str = "The frame has any size";
 const MISALIGNED: &str = "A misaligned access is refused";
 const PRIORITY: &str = "priority at creation";
-const ROUTE_BITS: &str = "IROUTER bits 63..40, 30..24";
-const LINES: &str = "TYPER's number of lines";
+const ROUTE_BITS: &str = "`GICD_IROUTER<n>` bits 63..40, 30..24";
+const LINES: &str = "`GICD_TYPER.ITLinesNumber`";
 
 /// The table: the title of the entry that explains a difference.
 #[rustfmt::skip]
@@ -199,8 +199,8 @@ mod tests {
 
     #[test]
     fn a_title_is_a_whole_heading_or_a_whole_first_cell() {
-        let page = "### 8. DS in CTLR reads 0\ntext 9\n| priority | 0x80 |\n";
-        assert!(stands(page, "DS in CTLR reads 0"));
+        let page = "### 8. `GICD_CTLR.DS` reads 0\ntext 9\n| priority | 0x80 |\n";
+        assert!(stands(page, "`GICD_CTLR.DS` reads 0"));
         assert!(stands(page, "priority"));
         for other in ["DS in CTLR", "text 9", "0x80", ""] {
             assert!(!stands(page, other), "{other:?}");

@@ -5,9 +5,13 @@ use mathlib.Core.Path.{_≡_, refl, sym, ap, _∙_}
 use mathlib.Core.Bool.{Bool, true, false, _&&_, cond, and-false}
 use mathlib.Core.List.{List, [], _∷_}
 use native.Mathlib.Omega.{arith}
+use lib.Dec.{eqb}
 use lib.ListN.{length}
 use lib.Pow.{pow-pos}
 use native.Mathlib.Nat.{mod-lt}
+use Rattle.theory.specs.Bools.{both}
+use Rattle.theory.specs.Lists.{passing}
+use Rattle.theory.specs.ListLaws.{passing-agree, passing-same}
 use Rattle.theory.specs.MapAtLaws.{mapped-at, mapAt-still}
 use Rattle.identifiers.specs.Answer.{done, within, unless}
 use Rattle.life.specs.Life.{line}
@@ -18,7 +22,8 @@ use Rattle.ownership.specs.Owned.{owned}
 use Rattle.controller.specs.Modes.{explicit}
 use Rattle.controller.specs.IdentityLaws.{ctlr-written}
 use Rattle.bank.specs.declared.bank.Bank.{Bank}
-use Rattle.bank.specs.Banks.{bitsOf, field, packed}
+use Rattle.bank.specs.Banks.{bitsOf, shown, field, packed}
+use Rattle.bank.specs.RowLaws.{ISENABLER, ISPENDR, deliverable-shown}
 use Rattle.bank.specs.BankLaws.{packed-same}
 use Rattle.bank.specs.FieldLaws.{packed-field}
 use Rattle.registers.specs.declared.register.AccessWidth.{AccessWidth}
@@ -28,12 +33,12 @@ use Rattle.registers.specs.declared.register.Access.{Access}
 use Rattle.registers.specs.declared.register.Access.the-variants.{To}
 use Rattle.decoding.specs.Decoding.{decode, writeAccess}
 use Rattle.slot.specs.declared.slot.Slot.{Slot}
-use Rattle.slot.specs.Slots.{showing, fieldWritten}
+use Rattle.slot.specs.Slots.{showing, fieldWritten, fieldListed}
 use Rattle.slot.specs.NoSlot.{noSlot}
-use Rattle.slot.specs.BankRule.{slotOf, covers, shownAt, bankValue, bankSlot, readBeyond}
-use Rattle.slot.specs.Guest.{showsThen}
-use Rattle.slot.specs.GuestLaws.{read-after-write, unowned-ignores}
-use Rattle.model.specs.Calls.{Distributor, Call, read, write, plain, size, writtenAt, switched, slotAfter, step, afterWrite, readReply, reply}
+use Rattle.slot.specs.BankRule.{slotOf, covers, shownAt, bankValue, bankSlot, bankCandidates, readBeyond}
+use Rattle.slot.specs.Guest.{showsThen, canList, readsDeliverable}
+use Rattle.slot.specs.GuestLaws.{read-after-write, unowned-ignores, listed-exactly}
+use Rattle.model.specs.Calls.{Distributor, Call, read, write, plain, size, writtenAt, switched, slotAfter, step, afterWrite, deliverableAt, readReply, writeReply, reply}
 use Rattle.model.specs.Typed.{Typed}
 use Rattle.model.specs.ReadLaws.{shown-at-fits}
 
@@ -87,6 +92,20 @@ module _ (d : Distributor) (ok : Typed d) (offset : ℕ) (w : AccessWidth) (v pl
       go true inside = ap (showing e b) (slot-then i inside) ∙ written-shows b i
       go false outside = rw (outside, and-false (within lo (lo + m) i))
 
+  -- the write lists an SPI that it covers, if its bank and field can list, and the guest reads then that the SPI is enabled and pending
+  pub candidates-then : bankCandidates e n a v lo m (d .slots)
+      ≡ passing (λ i. covers n lo m i && (canList a (field a v lo i) && readsDeliverable e (slotOf (wrote .slots) i))) lo m
+  candidates-then = passing-agree _ (λ i. covers n lo m i && (canList a (field a v lo i) && readsDeliverable e (slotOf (wrote .slots) i))) lo m (λ i low high. go i (covers n lo m i) refl)
+    where
+      listed : (i : ℕ) → covers n lo m i ≡ true → fieldListed e a (field a v lo i) (slotOf (d .slots) i) ≡ (canList a (field a v lo i) && readsDeliverable e (slotOf (wrote .slots) i))
+      listed i c =
+          let now : slotOf (wrote .slots) i ≡ fieldWritten e a (field a v lo i) (slotOf (d .slots) i) = slot-then i (both (within lo (lo + m) i) _ c .1) ∙ (rw c) in
+          listed-exactly e (slotOf (d .slots) i) a (field a v lo i) ∙ ap (λ (t : Slot). canList a (field a v lo i) && readsDeliverable e t) (sym now)
+
+      go : (i : ℕ) (x : Bool) → covers n lo m i ≡ x → (x && fieldListed e a (field a v lo i) (slotOf (d .slots) i)) ≡ (x && (canList a (field a v lo i) && readsDeliverable e (slotOf (wrote .slots) i)))
+      go i true c = listed i c
+      go i false c = refl
+
   module _ (offset′ : ℕ) (w′ : AccessWidth) (b : Bank) (lo′ m′ : ℕ)
       (shows : decode Reading (d .config .«distributor_size») offset′ w′ ≡ To (Fields b lo′ m′)) where
     -- a read that gave x before the write gives x after it, with each field changed as `fieldThen` says
@@ -126,6 +145,14 @@ module _ (d : Distributor) (offset : ℕ) (w : AccessWidth) (v places : ℕ) whe
   pub ctlr-after-ctlr : at ≡ To Ctlr → readReply then (To Ctlr) ≡ plain (done ((0x10 + 2 * (v / 2 % 2)) ∷ []))
   unfolding step
   ctlr-after-ctlr h = rw (h, ctlr-written v)
+
+  -- turned on, it lists every SPI of the table that is enabled and pending, owned or not, ascending
+  pub switch-lists : at ≡ To Ctlr → reply (write offset w v places) d .candidates
+      ≡ cond (eqb (v / 2 % 2) 1) (passing (λ i. let r = slotOf (d .slots) i .interrupt in eqb (shown ISENABLER r) 1 && eqb (shown ISPENDR r) 1) 32 (size d)) []
+  unfolding reply
+  switch-lists h =
+      ap (λ (x : Access). writeReply d x v .candidates) h
+      ∙ ap (λ (l : List ℕ). cond (eqb (v / 2 % 2) 1) l []) (passing-same (deliverableAt (d .slots)) _ 32 (size d) (λ i. deliverable-shown (slotOf (d .slots) i .interrupt)))
 
   -- a write to a bank leaves CTLR
   pub ctlr-after-bank : (b : Bank) (lo m : ℕ) → at ≡ To (Fields b lo m) → readReply then (To Ctlr) ≡ readReply d (To Ctlr)

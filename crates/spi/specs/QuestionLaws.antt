@@ -23,9 +23,9 @@ use Rattle.bank.specs.declared.bank.Field.{Field}
 use Rattle.bank.specs.declared.bank.Bank.{Bank}
 use Rattle.bank.specs.declared.bank.Bank.the-variants.{Set, Replace}
 use Rattle.bank.specs.Banks.{bit, edgeField, routeBits, shown}
-use Rattle.effect.specs.declared.effect.Effect.{Effect}
-use Rattle.effect.specs.declared.effect.Effect.the-variants.{Leave, Apply}
-use Rattle.effect.specs.Effects.{written}
+use Rattle.slot.specs.declared.effect.Effect.{Effect}
+use Rattle.slot.specs.declared.effect.Effect.the-variants.{Leave, Apply}
+use Rattle.slot.specs.Effects.{written}
 use Rattle.changes.specs.declared.change.Change.{Change}
 use Rattle.changes.specs.declared.change.Change.the-variants.{Claim, ClaimTo, Release, SetCpuTargetMask, SynchronizeInflight, Operate}
 use Rattle.slot.specs.declared.slot.Slot.{Slot}
