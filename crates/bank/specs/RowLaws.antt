@@ -60,15 +60,15 @@ banks = IGROUPR ∷ ISENABLER ∷ ICENABLER ∷ ISPENDR ∷ ICPENDR ∷ ISACTIVE
 -- there are no others
 pub no-others : (b : Bank) → List·Memᴰ b banks
 no-others (Replace Group) = List·Memᴰ·head refl
-no-others (Set Enabled) = List·Memᴰ·tail (List·Memᴰ·head refl)
-no-others (Clear Enabled) = List·Memᴰ·tail (List·Memᴰ·tail (List·Memᴰ·head refl))
-no-others (Set Pending) = List·Memᴰ·tail (List·Memᴰ·tail (List·Memᴰ·tail (List·Memᴰ·head refl)))
-no-others (Clear Pending) = List·Memᴰ·tail (List·Memᴰ·tail (List·Memᴰ·tail (List·Memᴰ·tail (List·Memᴰ·head refl))))
-no-others (Set Active) = List·Memᴰ·tail (List·Memᴰ·tail (List·Memᴰ·tail (List·Memᴰ·tail (List·Memᴰ·tail (List·Memᴰ·head refl)))))
-no-others (Clear Active) = List·Memᴰ·tail (List·Memᴰ·tail (List·Memᴰ·tail (List·Memᴰ·tail (List·Memᴰ·tail (List·Memᴰ·tail (List·Memᴰ·head refl))))))
-no-others (Replace Priority) = List·Memᴰ·tail (List·Memᴰ·tail (List·Memᴰ·tail (List·Memᴰ·tail (List·Memᴰ·tail (List·Memᴰ·tail (List·Memᴰ·tail (List·Memᴰ·head refl)))))))
-no-others (Replace Configuration) = List·Memᴰ·tail (List·Memᴰ·tail (List·Memᴰ·tail (List·Memᴰ·tail (List·Memᴰ·tail (List·Memᴰ·tail (List·Memᴰ·tail (List·Memᴰ·tail (List·Memᴰ·head refl))))))))
-no-others (Replace Field.Route) = List·Memᴰ·tail (List·Memᴰ·tail (List·Memᴰ·tail (List·Memᴰ·tail (List·Memᴰ·tail (List·Memᴰ·tail (List·Memᴰ·tail (List·Memᴰ·tail (List·Memᴰ·tail (List·Memᴰ·head refl)))))))))
+no-others (Set Enabled) = search (List·Memᴰ·head, List·Memᴰ·tail) depth 12
+no-others (Clear Enabled) = search (List·Memᴰ·head, List·Memᴰ·tail) depth 12
+no-others (Set Pending) = search (List·Memᴰ·head, List·Memᴰ·tail) depth 12
+no-others (Clear Pending) = search (List·Memᴰ·head, List·Memᴰ·tail) depth 12
+no-others (Set Active) = search (List·Memᴰ·head, List·Memᴰ·tail) depth 12
+no-others (Clear Active) = search (List·Memᴰ·head, List·Memᴰ·tail) depth 12
+no-others (Replace Priority) = search (List·Memᴰ·head, List·Memᴰ·tail) depth 12
+no-others (Replace Configuration) = search (List·Memᴰ·head, List·Memᴰ·tail) depth 12
+no-others (Replace Field.Route) = search (List·Memᴰ·head, List·Memᴰ·tail) depth 12
 
 abbrev pub among : (Bank → Bool) → List Bank → List Bank
 among t [] = []

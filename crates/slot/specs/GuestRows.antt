@@ -150,18 +150,21 @@ route-set a (Replace Route) r = shown-after (Replace Route) (SetRoute a) r ∙ r
 
 -- a field
 module _ (v : ℕ) (b : Bank) (r : InterruptRecord) where
-  -- the written bank shows w, and no write to a field makes pending
-  own-row : (fixed : Bool) (x : Field) {w : ℕ} → w ≡ itselfThen fixed (Replace x) v (shown b r)
-      → cond (alike (Replace x) b) w (shown b r) ≡ showsThen (line (r .life)) (isLevel r) fixed (Replace x) v b (shown b r)
-  own-row fixed x e = rw (e, and-false (eqb v 1 && alike ISPENDR b))
+  -- what bank b shows after a write to the bank of x
+  abbrev written-shows : Bool → Field → ℕ
+  written-shows fixed x = shown b (afterEffect (cond (acts (Replace x) v) (effectOf fixed (Replace x) v) Leave) r)
 
-  field-row : (fixed : Bool) (x : Field) → v < 2 ^ bitsOf (Replace x)
-      → shown b (afterEffect (cond (acts (Replace x) v) (effectOf fixed (Replace x) v) Leave) r) ≡ showsThen (line (r .life)) (isLevel r) fixed (Replace x) v b (shown b r)
-  field-row fixed Group h = none-row (alike (Replace Group) b) refl ∙ own-row fixed Group refl
-  field-row fixed Priority h = priority-set _ b r ∙ own-row fixed Priority (omega arith)
-  field-row fixed Configuration h = trigger-set _ b r ∙ own-row fixed Configuration (upper-bit v h)
-  field-row true Route h = none-row (alike (Replace Route) b) refl ∙ own-row true Route refl
-  field-row false Route h = route-set _ b r ∙ own-row false Route (mpidr-fromMpidr v)
+  -- the written bank shows w, and no write to a field makes pending
+  own-row : (fixed : Bool) (x : Field) {w : ℕ} → written-shows fixed x ≡ cond (alike (Replace x) b) w (shown b r) → w ≡ itselfThen fixed (Replace x) v (shown b r)
+      → written-shows fixed x ≡ showsThen (line (r .life)) (isLevel r) fixed (Replace x) v b (shown b r)
+  own-row fixed x d e = d ∙ (rw (e, and-false (eqb v 1 && alike ISPENDR b)))
+
+  field-row : (fixed : Bool) (x : Field) → v < 2 ^ bitsOf (Replace x) → written-shows fixed x ≡ showsThen (line (r .life)) (isLevel r) fixed (Replace x) v b (shown b r)
+  field-row fixed Group h = own-row fixed Group (none-row (alike (Replace Group) b) refl) refl
+  field-row fixed Priority h = own-row fixed Priority (priority-set _ b r) (omega arith)
+  field-row fixed Configuration h = own-row fixed Configuration (trigger-set _ b r) (upper-bit v h)
+  field-row true Route h = own-row true Route (none-row (alike (Replace Route) b) refl) refl
+  field-row false Route h = own-row false Route (route-set _ b r) (mpidr-fromMpidr v)
 
 -- a written field of an owned SPI, as a bank shows it
 pub record-row : (fixed : Bool) (a : Bank) (v : ℕ) (b : Bank) (r : InterruptRecord) → v < 2 ^ bitsOf a
