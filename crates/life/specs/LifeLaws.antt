@@ -72,9 +72,13 @@ module _ (e p a i d l : Bool) where
 
   -- ---- a delivery
 
-  -- a new interrupt and one whose delivery state is cleared keep nothing but enabled; one that is taken is in flight besides
-  pub taken-cleared : (taken (cleared (flags e p a i d l)) ≡ flags e false false true false false) × (taken (born e) ≡ flags e false false true false false) × (taken (flags e p a i d l) ≡ flags e p a true d l)
-  taken-cleared = (refl, refl, refl)
+  -- a new interrupt has nothing but enabled, one whose delivery state is cleared keeps nothing else, and one that is taken is in
+  -- flight besides
+  pub begun :
+      (born e ≡ flags e false false false false false) ×
+      (cleared (flags e p a i d l) ≡ flags e false false false false false) ×
+      (taken (flags e p a i d l) ≡ flags e p a true d l)
+  begun = (refl, refl, refl)
 
   -- a synchronisation drops the mark only where the merged state is active and pending: the mark makes it pending
   pub synchronizing : (s : Bool) →
