@@ -1,19 +1,26 @@
-// The guest's reads and writes, by number.
+// What the guest's reads and writes answer, in numbers; their widths and places by number.
 use crate::answer;
 use crate::answer::Answer;
 use answers::answer::ReadAnswer;
 use answers::answer::WriteAnswer;
 use registers::register::AccessWidth;
-ghost use Prim.Native.Nat.{_≤_};
+ghost use mathlib.Core.Path.{_≡_};
+ghost use Prim.Native.Nat.{min};
+ghost use Rattle.answers.specs.Answers.{toldRead, toldWrite};
+ghost use Rattle.harness_numbers.specs.Numbers.{widthBy, valued, listed};
 
-pub fn read(answer: ReadAnswer) -> Answer {
+pub fn read(answer: ReadAnswer) -> Answer
+    ensures { λ r. ⌜ r ≡ valued (toldRead answer) ⌝ }
+{
     match answer {
         ReadAnswer::Done(value) => answer::done(value),
         ReadAnswer::Refused(refusal) => answer::refused(refusal),
     }
 }
 
-pub fn written(answer: WriteAnswer) -> Answer {
+pub fn written(answer: WriteAnswer) -> Answer
+    ensures { λ r. ⌜ r ≡ listed (toldWrite answer) ⌝ }
+{
     match answer {
         WriteAnswer::Done(count) => answer::listed(count),
         WriteAnswer::Refused(refusal) => answer::refused(refusal),
@@ -22,7 +29,7 @@ pub fn written(answer: WriteAnswer) -> Answer {
 
 // How many places a write is lent: as many as the call says, or all that there are.
 pub fn lent(places: u64, room: usize) -> usize
-    ensures { λ r. ⌜ r ≤ room ⌝ }
+    ensures { λ r. ⌜ r ≡ min places room ⌝ }
 {
     if places < room as u64 {
         places as usize
@@ -31,7 +38,9 @@ pub fn lent(places: u64, room: usize) -> usize
     }
 }
 
-pub fn width(bytes: u64) -> AccessWidth {
+pub fn width(bytes: u64) -> AccessWidth
+    ensures { λ r. ⌜ r ≡ widthBy bytes ⌝ }
+{
     match bytes {
         1 => AccessWidth::Byte,
         2 => AccessWidth::Word,

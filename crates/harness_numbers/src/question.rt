@@ -1,4 +1,4 @@
-// The host's questions about one SPI, by number.
+// What the host's questions about one SPI are answered, in numbers.
 use crate::answer;
 use crate::answer::Answer;
 use crate::number::bit;
@@ -7,35 +7,23 @@ use crate::number::of_trigger;
 use crate::number::wide;
 use crate::number::wide_word;
 use interrupt::interrupt::Route;
-use spi::question::Question;
 use spi::question::QuestionAnswer;
 use spi::question::Value;
+ghost use mathlib.Core.Path.{_≡_};
+ghost use Rattle.harness_numbers.specs.Values.{routeNumber, valueNumber, seenQuestion};
 
-pub fn question_of(op: u64) -> Question {
-    match op {
-        0x19 => Question::CpuTargetMask,
-        0x20 => Question::Intid,
-        0x21 => Question::Enabled,
-        0x23 => Question::Pending,
-        0x25 => Question::Active,
-        0x27 => Question::State,
-        0x29 => Question::HasDeliveryState,
-        0x30 => Question::Priority,
-        0x32 => Question::Trigger,
-        0x34 => Question::Route,
-        // 0x3a
-        _ => Question::Deliverable,
-    }
-}
-
-pub fn seen(answer: QuestionAnswer) -> Answer {
+pub fn seen(answer: QuestionAnswer) -> Answer
+    ensures { λ r. ⌜ r ≡ seenQuestion answer ⌝ }
+{
     match answer {
         QuestionAnswer::Done(value) => answer::done(number_of(value)),
         QuestionAnswer::Refused(refusal) => answer::refused(refusal),
     }
 }
 
-fn number_of(value: Value) -> u64 {
+fn number_of(value: Value) -> u64
+    ensures { λ r. ⌜ r ≡ valueNumber value ⌝ }
+{
     match value {
         Value::Intid(intid) => wide_word(intid),
         Value::Flag(on) => bit(on),
@@ -48,9 +36,11 @@ fn number_of(value: Value) -> u64 {
 }
 
 // 2^40 and the packed affinity, so that the route 0.0.0.0 is not an absent one.
-fn route_number(route: Route) -> u64 {
+fn route_number(route: Route) -> u64
+    ensures { λ r. ⌜ r ≡ routeNumber route ⌝ }
+{
     match route {
-        Route::To(affinity) => 1 << 40 | affinity.mpidr(),
+        Route::To(affinity) => 0x100_0000_0000 + affinity.mpidr(),
         Route::Unset => 0,
     }
 }

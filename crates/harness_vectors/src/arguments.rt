@@ -38,7 +38,7 @@ fn most_candidates(call: Call, kind: u64, spis: u64) -> u64 {
 }
 
 fn known(op: u64) -> bool {
-    match call::family_of(op) {
+    match call::family_of(op, 0) {
         Family::Unknown => false,
         _ => true,
     }
