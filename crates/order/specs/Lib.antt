@@ -1,4 +1,5 @@
 pub mod Names
+pub mod NamesLaws
 pub mod Refusals
 pub mod OrderFacts
 pub mod ReplyFacts

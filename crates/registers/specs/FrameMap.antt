@@ -132,3 +132,9 @@ module _ (o : ℕ) (w : AccessWidth) where
       let (low, high, aligned) = in-words 0xc00 0xd00 o .0 h in
       let past : within 0x400 0x7fc o ≡ false = refuted (within 0x400 0x7fc o) (λ e. let r = within-both 0x400 0x7fc o .0 e in omega arith) in
       rw (no-words 0xffd0 0x10000 (λ p q. omega arith), ne-eqb o 0 (omega arith), ne-eqb o 4 (omega arith), ne-eqb o 8 (omega arith), no-words 0x80 0x400 (λ p q. omega arith), past, h)
+
+  pub irouter-there : within 0x6000 0x7fe0 o ≡ true → registerThere o w ≡ Fields (Replace Field.Route) ((o - 0x6000) / 8) (bytesOf w / 8)
+  irouter-there h =
+      let (low, high) = within-both 0x6000 0x7fe0 o .0 h in
+      let past : within 0x400 0x7fc o ≡ false = refuted (within 0x400 0x7fc o) (λ e. let r = within-both 0x400 0x7fc o .0 e in omega arith) in
+      rw (no-words 0xffd0 0x10000 (λ p q. omega arith), ne-eqb o 0 (omega arith), ne-eqb o 4 (omega arith), ne-eqb o 8 (omega arith), no-words 0x80 0x400 (λ p q. omega arith), past, no-words 0xc00 0xd00 (λ p q. omega arith), h)
