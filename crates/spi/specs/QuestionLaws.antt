@@ -2,7 +2,7 @@
 use Prim.Native.Nat.{ℕ, _+_, _*_, _/_}
 use mathlib.Core.Path.{_≡_, refl, ap, _∙_}
 use mathlib.Core.Bool.{Bool, true, false, not, _&&_, _||_, cond, or-true}
-use mathlib.Core.List.{List, [], _∷_}
+use mathlib.Core.List.{[], _∷_}
 use Rattle.identifiers.specs.declared.error.Refusal.{Refusal}
 use Rattle.identifiers.specs.Answer.{Answer, done, refused, toldRefusal, rawOf}
 use Rattle.attributes.specs.declared.attributes.GicAffinity.{GicAffinity}
