@@ -4,6 +4,8 @@ use mathlib.Core.Path.{_≡_, refl}
 use mathlib.Core.Bool.{Bool, true, false, cond}
 use mathlib.Core.List.{List, [], _∷_}
 use native.Mathlib.Omega.{arith}
+use borrow.Author.Tests.{ltb-false}
+use lib.Dec.{ltb}
 use lib.ListN.{length, getElem?}
 use Rattle.theory.specs.Lists.{passing}
 use Rattle.theory.specs.Elements.{laid-first, laid-past}
@@ -56,14 +58,34 @@ module _ (d : Distributor) (offset : ℕ) (w : AccessWidth) (v places : ℕ) whe
   unfolding reply
   write-lists = access-lists (writeAccess places (size d) (d .config .«distributor_size») offset w)
 
--- the places before the count hold the candidates, and those past it what they held
-module _ (r : Reply) (lent : List ℕ) where
-  pub first-places : (k : ℕ) → k < length (r .candidates) → getElem? (outcome r lent .list) k ≡ getElem? (r .candidates) k
-  first-places k h = laid-first (r .candidates) lent k h
+  -- a list that is too short is refused 5
+  short : ltb places (size d) ≡ true → reply (write offset w v places) d .candidates ≡ []
+  unfolding reply
+  short e = rw e
 
-  pub other-places : (k : ℕ) → length (r .candidates) ≤ length lent → length (r .candidates) ≤ k → getElem? (outcome r lent .list) k ≡ getElem? lent k
-  other-places k room h = laid-past (r .candidates) lent k room h
+  -- so the list has a place for each
+  pub candidates-fit : length (reply (write offset w v places) d .candidates) ≤ places
+  candidates-fit = go (ltb places (size d)) refl
+    where
+      few : (r : Reply) → Lists r → length (r .candidates) ≤ size d
+      few r (turnedDown n c) = omega arith
+      few r (listed cs h) = h
 
--- and a call that lists none leaves the list as it was lent
+      go : (t : Bool) → ltb places (size d) ≡ t → length (reply (write offset w v places) d .candidates) ≤ places
+      go true e = let z = short e in rw z (omega arith)
+      go false e = let h : size d ≤ places = ltb-false _ _ e in let k = few (reply (write offset w v places) d) write-lists in omega arith
+
+-- after a write to which `lent` was lent: the places before the count hold the candidates, and those past it what they held
+module _ (d : Distributor) (offset : ℕ) (w : AccessWidth) (v : ℕ) (lent : List ℕ) where
+  abbrev given : Reply
+  given = reply (write offset w v (length lent)) d
+
+  pub first-places : (k : ℕ) → k < length (given .candidates) → getElem? (outcome given lent .list) k ≡ getElem? (given .candidates) k
+  first-places k h = laid-first (given .candidates) lent k h
+
+  pub other-places : (k : ℕ) → length (given .candidates) ≤ k → getElem? (outcome given lent .list) k ≡ getElem? lent k
+  other-places k h = laid-past (given .candidates) lent k (candidates-fit d offset w v (length lent)) h
+
+-- a call that lists none leaves the list as it was lent
 pub list-untouched : (a : Answer) (lent : List ℕ) → outcome (plain a) lent .list ≡ lent
 list-untouched a lent = refl

@@ -28,7 +28,8 @@ pub record Ordered (d : Distributor) : Type 0 where
       → slotOf (run step calls d .slots) i ≡ slotOf (run step (naming (named d) (spi i) calls) d .slots) i
   pub replay-switch : (calls : List Call) → run step calls d .switch ≡ run step (naming (named d) theSwitch calls) d .switch
   -- REORDERING. Two lists of calls, matched one to one, each call with the same call, so that every two calls that name an SPI or the
-  -- switch in common keep their order: the end states are equal, and each call gets the reply that its partner gets
+  -- switch in common keep their order: the end states are equal, and each call gets the reply that its partner gets. (A write comes
+  -- with the number of places lent. What the list holds then: `first-places` and `other-places` of model's Replies)
   pub reordering : (xs ys : List Call) (m : Matching (named d) xs ys)
       → (run step xs d ≡ run step ys d)
       × ((i : ℕ) → i < length xs → getElem? (answers step reply xs d) i ≡ getElem? (answers step reply ys d) (m .to i))
