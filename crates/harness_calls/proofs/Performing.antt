@@ -5,7 +5,7 @@ use mathlib.Core.Bool.{Bool, true, false, cond}
 use mathlib.Core.List.{List, [], _∷_, _++_}
 use native.Mathlib.Omega.{arith}
 use native.Mathlib.Nat.{le-of-suc-le-suc}
-use borrow.Author.Tests.{ltb-true, ltb-false, le-leb, lt-ltb}
+use borrow.Author.Tests.{le-leb, lt-ltb}
 use lib.Dec.{leb, ltb}
 use lib.ListN.{length, take, drop, take-append-drop}
 use lib.Seq.{length-take-le}
@@ -34,7 +34,7 @@ use Rattle.spi.specs.ChangeAnswers.{toldChange}
 use Rattle.spi.specs.Questions.{valueOf, toldValue, questionAnswer}
 use Rattle.spi.specs.declared.question.Question.{Question}
 use Rattle.model.specs.Calls.{Distributor, Call, create, read, write, isSwitchedOn, rollback, change, ask, Reply, Outcome, outcome, size, created, reply, step}
-use Rattle.model.specs.Replies.{Lists, turnedDown, listed, write-5, write-lists}
+use Rattle.model.specs.Replies.{candidates-fit}
 use Rattle.distributor.specs.declared.distributor.DistributorState.{DistributorState}
 use Rattle.distributor.specs.declared.host.Changed.{Changed}
 use Rattle.distributor.specs.Model.{modelOf, switchReply}
@@ -177,24 +177,13 @@ module _ (d : DistributorState) (room : List ℕ) where
     abbrev K : Call
     K = write offset w v places
 
-    within-places : length (reply K (modelOf d) .candidates) ≤ places
-    within-places = go (ltb places (size (modelOf d))) refl
-      where
-        few : (r : Reply) → Lists (modelOf d) offset w v places r → length (r .candidates) ≤ size (modelOf d)
-        few r (turnedDown n c) = omega arith
-        few r (listed cs h) = h
-
-        go : (t : Bool) → ltb places (size (modelOf d)) ≡ t → length (reply K (modelOf d) .candidates) ≤ places
-        go true e = let h : reply K (modelOf d) .candidates ≡ [] = ap (λ (r : Reply). r .candidates) (write-5 (modelOf d) offset w v places (ltb-true _ _ e)) in rw h (omega arith)
-        go false e = let h : size (modelOf d) ≤ places = ltb-false _ _ e in let k = few (reply K (modelOf d)) (write-lists (modelOf d) offset w v places) in omega arith
-
     pub write-performed : (r : Ran) (e : DistributorState) (a : told.Answer) (left : List ℕ) → places ≤ length room → r ≡ of e (numbered.listed a) → modelOf e ≡ step K (modelOf d)
         → _≡_ {A = Outcome} (record { answer = a; list = left }) (outcome (reply K (modelOf d)) (take places room)) → Performed K d room r (left ++ drop places room)
     write-performed r e a left f p s o =
         record {
           state = ap (λ (x : Ran). modelOf (x .state)) p ∙ s;
           answer = ap (λ (x : Ran). x .answer) p ∙ ap (λ (x : Outcome). numbered.listed (x .answer)) o;
-          lent = ap (λ (x : Outcome). x .list ++ drop places room) o ∙ laid-front (reply K (modelOf d) .candidates) room places within-places f;
+          lent = ap (λ (x : Outcome). x .list ++ drop places room) o ∙ laid-front (reply K (modelOf d) .candidates) room places (candidates-fit (modelOf d) offset w v places) f;
         }
 
   -- p places are lent, by the number n
