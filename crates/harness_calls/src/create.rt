@@ -6,9 +6,16 @@ use distributor::distributor::DistributorState;
 use harness_numbers::answer;
 use harness_numbers::answer::Answer;
 use harness_numbers::call::Call;
-use harness_numbers::number::has;
 use harness_numbers::number::low_word;
+use harness_numbers::number::odd;
 use place::place::CreateAnswer;
+ghost use mathlib.Core.Path.{_≡_};
+ghost use mathlib.Core.Bool.{cond};
+ghost use Rattle.place.specs.Table.{createAnswer, createdCount, toldCreate};
+ghost use Rattle.controller.specs.declared.controller.GicV3SpiOwnership.the-variants.{AllGuestOwned, Explicit};
+ghost use Rattle.model.specs.Calls.{created};
+ghost use Rattle.distributor.specs.Model.{modelOf};
+ghost use Rattle.harness_numbers.specs.Numbers.{odd, lowWord, settingsBy, valued};
 
 // Before any creation there is a Distributor with no SPIs, as after one that is refused.
 pub fn nothing() -> DistributorState {
@@ -16,7 +23,9 @@ pub fn nothing() -> DistributorState {
     created.state
 }
 
-pub fn create(call: Call) -> Ran {
+pub fn create(call: Call) -> Ran
+    ensures { λ r. ⌜ (modelOf (r .state) ≡ created (settingsBy (call .b) (call .c) (call .d)) (createdCount (lowWord (call .a)))) × (r .answer ≡ valued (createAnswer (lowWord (call .a)))) ⌝ }
+{
     let created = DistributorState::new(config(call.b, call.c, call.d), low_word(call.a));
     let state = created.state;
     let answer = created.answer;
@@ -26,7 +35,9 @@ pub fn create(call: Call) -> Ran {
     }
 }
 
-fn made(answer: CreateAnswer) -> Answer {
+fn made(answer: CreateAnswer) -> Answer
+    ensures { λ r. ⌜ r ≡ valued (toldCreate answer) ⌝ }
+{
     match answer {
         CreateAnswer::Done => answer::done(0),
         CreateAnswer::Refused(refusal) => answer::refused(refusal),
@@ -34,20 +45,24 @@ fn made(answer: CreateAnswer) -> Answer {
 }
 
 // Ownership, then the LPI, ITS, level-3 and range flags, from the settings' lowest bit up.
-fn config(settings: u64, frame_size: u64, lpi_limit: u64) -> ControllerConfig {
+fn config(settings: u64, frame_size: u64, lpi_limit: u64) -> ControllerConfig
+    ensures { λ r. ⌜ r ≡ settingsBy settings «frame_size» «lpi_limit» ⌝ }
+{
     ControllerConfig {
         spi_ownership: ownership(settings),
         distributor_size: frame_size,
-        exposes_guest_lpis: has(settings, 2),
-        its: has(settings, 4),
+        exposes_guest_lpis: odd(settings / 2),
+        its: odd(settings / 4),
         lpi_limit: low_word(lpi_limit),
-        affinity_level_3: has(settings, 8),
-        range_selector: has(settings, 16),
+        affinity_level_3: odd(settings / 8),
+        range_selector: odd(settings / 16),
     }
 }
 
-fn ownership(settings: u64) -> GicV3SpiOwnership {
-    if has(settings, 1) {
+fn ownership(settings: u64) -> GicV3SpiOwnership
+    ensures { λ r. ⌜ r ≡ cond (odd settings) Explicit AllGuestOwned ⌝ }
+{
+    if odd(settings) {
         GicV3SpiOwnership::Explicit
     } else {
         GicV3SpiOwnership::AllGuestOwned

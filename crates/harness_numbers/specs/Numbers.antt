@@ -144,36 +144,41 @@ numbers kind payload count = record { kind = kind; payload = payload; count = co
 abbrev pub noCall : Answer
 noCall = numbers 0xff 0 0
 
--- kind 0 and the value, 0 where there is none; or the refusal's number and what it carries
+-- a refusal's number and what it carries; or kind 0 and what the values are told as
+abbrev pub toldBy : (List ℕ → Answer) → told.Answer → Answer
+toldBy f (told.done vs) = f vs
+toldBy f (told.refused n vs) = numbers n (getD vs 0 0) 0
+
+-- the value, 0 where there is none
 abbrev pub valued : told.Answer → Answer
-valued (told.done vs) = numbers 0 (getD vs 0 0) 0
-valued (told.refused n vs) = numbers n (getD vs 0 0) 0
+valued = toldBy (λ vs. numbers 0 (getD vs 0 0) 0)
 
 -- a write tells how many candidates it lists
 abbrev pub listed : told.Answer → Answer
-listed (told.done vs) = numbers 0 0 (getD vs 0 0)
-listed (told.refused n vs) = numbers n (getD vs 0 0) 0
+listed = toldBy (λ vs. numbers 0 0 (getD vs 0 0))
 
 -- a route is told with 2^40 added, so that 0.0.0.0 is not an absent one
-abbrev pub routed : told.Answer → Answer
-routed (told.done []) = numbers 0 0 0
-routed (told.done (v ∷ vs)) = numbers 0 (2 ^ 40 + v) 0
-routed (told.refused n vs) = numbers n (getD vs 0 0) 0
+abbrev pub routePayload : List ℕ → ℕ
+routePayload [] = 0
+routePayload (v ∷ vs) = 2 ^ 40 + v
+
+abbrev pub askedPayload : Question → List ℕ → ℕ
+askedPayload Intid vs = getD vs 0 0
+askedPayload Enabled vs = getD vs 0 0
+askedPayload Pending vs = getD vs 0 0
+askedPayload Active vs = getD vs 0 0
+askedPayload State vs = getD vs 0 0
+askedPayload HasDeliveryState vs = getD vs 0 0
+askedPayload Question.Priority vs = getD vs 0 0
+askedPayload Question.Trigger vs = getD vs 0 0
+askedPayload Question.Route vs = routePayload vs
+askedPayload CpuTargetMask vs = getD vs 0 0
+askedPayload Deliverable vs = getD vs 0 0
+askedPayload IsClaimed vs = getD vs 0 0
+askedPayload HasFixedRoute vs = getD vs 0 0
 
 abbrev pub asked : Question → told.Answer → Answer
-asked Intid a = valued a
-asked Enabled a = valued a
-asked Pending a = valued a
-asked Active a = valued a
-asked State a = valued a
-asked HasDeliveryState a = valued a
-asked Question.Priority a = valued a
-asked Question.Trigger a = valued a
-asked Question.Route a = routed a
-asked CpuTargetMask a = valued a
-asked Deliverable a = valued a
-asked IsClaimed a = valued a
-asked HasFixedRoute a = valued a
+asked q = toldBy (λ vs. numbers 0 (askedPayload q vs) 0)
 
 -- THE NUMBERS of what a call answers
 abbrev pub numbersOf : model.Call → told.Answer → Answer

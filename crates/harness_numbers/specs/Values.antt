@@ -15,7 +15,7 @@ use Rattle.spi.specs.declared.question.Value.{Value}
 use Rattle.spi.specs.declared.question.QuestionAnswer.{QuestionAnswer}
 use Rattle.spi.specs.Questions.{valueOf, toldValue, routeValues}
 use Rattle.harness_numbers.specs.declared.answer.Answer.{Answer}
-use Rattle.harness_numbers.specs.Numbers.{numbers, valued, routed, asked}
+use Rattle.harness_numbers.specs.Numbers.{numbers, valued, routePayload, asked}
 
 abbrev pub routeNumber : Route → ℕ
 routeNumber (Route.To a) = 2 ^ 40 + mpidrOf a
@@ -34,7 +34,7 @@ abbrev pub seenQuestion : QuestionAnswer → Answer
 seenQuestion (QuestionAnswer.Done v) = numbers 0 (valueNumber v) 0
 seenQuestion (QuestionAnswer.Refused f) = valued (toldRefusal f)
 
-route-asked : (r : Route) → numbers 0 (routeNumber r) 0 ≡ routed (done (routeValues r))
+route-asked : (r : Route) → numbers 0 (routeNumber r) 0 ≡ numbers 0 (routePayload (routeValues r)) 0
 route-asked (Route.To a) = refl
 route-asked Route.Unset = refl
 
