@@ -1,6 +1,6 @@
 -- From what the parts of `run` promise to what the call promises.
-use Prim.Native.Nat.{ℕ, zero, suc, _≤_}
-use mathlib.Core.Path.{_≡_, refl, sym, ap, _∙_}
+use Prim.Native.Nat.{ℕ, zero, suc, _≤_, min}
+use mathlib.Core.Path.{_≡_, refl, sym, ap, subst, _∙_}
 use mathlib.Core.Bool.{Bool, true, false, cond}
 use mathlib.Core.List.{List, [], _∷_, _++_}
 use native.Mathlib.Omega.{arith}
@@ -8,11 +8,13 @@ use native.Mathlib.Nat.{le-of-suc-le-suc}
 use borrow.Author.Tests.{ltb-true, ltb-false, le-leb, lt-ltb}
 use lib.Dec.{leb, ltb}
 use lib.ListN.{length, take, drop, take-append-drop}
+use lib.Seq.{length-take-le}
 use Rattle.theory.specs.Lists.{mapAt, laid}
 use Rattle.theory.specs.MapAtLaws.{mapAt-still}
 use Rattle.identifiers.specs.Answer as told
 use Rattle.identifiers.specs.Answer.{done, refused, within, toldRefusal, toldSpi, idAnswer}
 use Rattle.identifiers.specs.declared.error.Refusal.{Refusal}
+use Rattle.identifiers.specs.declared.error.Refusal.the-variants.{InvalidIntId}
 use Rattle.identifiers.specs.declared.types.SpiId.{SpiId}
 use Rattle.identifiers.specs.declared.types.SpiIdAnswer.{SpiIdAnswer}
 use Rattle.place.specs.Table.{createAnswer, createdCount, tableSize, inTable}
@@ -26,17 +28,29 @@ use Rattle.registers.specs.declared.register.Access.the-variants.{To, Refused}
 use Rattle.registers.specs.declared.register.Direction.the-variants.{Reading}
 use Rattle.decoding.specs.Decoding.{decode}
 use Rattle.slot.specs.declared.slot.Slot.{Slot}
+use Rattle.slot.specs.BankRule.{slotOf}
 use Rattle.changes.specs.declared.change.Change.{Change}
+use Rattle.spi.specs.declared.change.ChangeAnswer.{ChangeAnswer}
+use Rattle.spi.specs.declared.question.SlotAnswer.{SlotAnswer}
+use Rattle.spi.specs.declared.question.QuestionAnswer.{QuestionAnswer}
+use Rattle.spi.specs.ChangeAnswers.{toldChange}
+use Rattle.spi.specs.Questions.{valueOf, toldValue, questionAnswer}
 use Rattle.spi.specs.declared.question.Question.{Question}
 use Rattle.model.specs.Calls.{Distributor, Call, create, read, write, isSwitchedOn, rollback, change, ask, Reply, Outcome, outcome, size, created, reply, step, readReply}
 use Rattle.model.specs.Replies.{Lists, turnedDown, listed, write-5, write-lists}
 use Rattle.distributor.specs.declared.distributor.DistributorState.{DistributorState}
+use Rattle.distributor.specs.declared.host.Changed.{Changed}
 use Rattle.distributor.specs.Model.{modelOf, switchReply}
+use Rattle.distributor.specs.Host.{slotAnswer, ResultOf}
+use Rattle.distributor.proofs.Hosting.{changed-out}
 use Rattle.harness_numbers.specs.declared.answer.Answer.{Answer}
+use Rattle.harness_numbers.specs.declared.call.Call as code
+use Rattle.harness_numbers.specs.declared.call.Family.{Family}
 use Rattle.harness_numbers.specs.Numbers as numbered
-use Rattle.harness_numbers.specs.Numbers.{numbers, valued, asked, numbersOf}
+use Rattle.harness_numbers.specs.Numbers.{familyOf, meaningOf, callOf, numbers, valued, asked, numbersOf}
+use Rattle.harness_numbers.specs.Values.{seenQuestion, value-asked}
 use Rattle.harness_calls.specs.declared.run.Ran.{Ran}
-use Rattle.harness_calls.specs.Ran.{after, Performed}
+use Rattle.harness_calls.specs.Ran.{after, Performed, RanAs}
 
 -- ---- the makers of SPI identifiers, and the table
 
@@ -94,25 +108,59 @@ module _ (d : Distributor) where
 
 -- ---- what each part gives
 
-abbrev of : DistributorState → Answer → Ran
+abbrev pub of : DistributorState → Answer → Ran
 of d a = record { state = d; answer = a }
 
-module _ (d : DistributorState) (room : List ℕ) where
+-- a host call by a number, which is an SPI's or not
+module _ (d : DistributorState) (raw : ℕ) where
   abbrev D : Distributor
   D = modelOf d
 
-  unlisted : (k : Call) (r : Ran) → modelOf (r .state) ≡ after k D → r .answer ≡ numbersOf k (reply k D .answer) → reply k D .candidates ≡ [] → Performed k d room r room
+  module _ (h : Change) where
+    abbrev Done : Ran → Type 0
+    Done r = (modelOf (r .state) ≡ step (change h raw) D) × (r .answer ≡ valued (reply (change h raw) D .answer))
+
+    pub changed-spi : (s : SpiId) (x : Changed) (r : Ran) → s .0 ≡ raw → ResultOf (change h (s .0)) d x → r ≡ of (x .state) (valued (toldChange (x .answer))) → Done r
+    changed-spi s x r e k p = (
+      ap (λ (y : Ran). modelOf (y .state)) p ∙ k .0 ∙ ap (λ (n : ℕ). step (change h n) D) e,
+      ap (λ (y : Ran). y .answer) p ∙ ap (λ (y : Reply). valued (y .answer)) (k .1) ∙ ap (λ (n : ℕ). valued (reply (change h n) D .answer)) e,
+    )
+
+    pub unchanged-spi : (f : Refusal) (r : Ran) → toldSpi (SpiIdAnswer.Refused f) ≡ idAnswer 32 1020 raw → r ≡ of d (valued (toldRefusal f)) → Done r
+    unchanged-spi f r e p =
+        let o = spi-refused (d .«spi_count») raw f e in
+        let k = changed-out d raw h (record { state = d; answer = ChangeAnswer.Refused f }) (o .0) refl (o .1) in (
+          ap (λ (y : Ran). modelOf (y .state)) p ∙ k .0,
+          ap (λ (y : Ran). y .answer) p ∙ ap (λ (y : Reply). valued (y .answer)) (k .1),
+        )
+
+  module _ (q : Question) where
+    seen-asked : (t : Bool) (s : Slot) (n : ℕ) → seenQuestion (questionAnswer q (cond t (SlotAnswer.Done s) (SlotAnswer.Refused (InvalidIntId n)))) ≡ asked q (cond t (done (toldValue (valueOf q s))) (refused 1 (n ∷ [])))
+    seen-asked true s n = value-asked q s
+    seen-asked false s n = refl
+
+    pub asked-spi : (s : SpiId) (x : QuestionAnswer) → s .0 ≡ raw → x ≡ questionAnswer q (slotAnswer D (s .0)) → {a : Answer} → a ≡ seenQuestion x → a ≡ asked q (reply (ask q raw) D .answer)
+    unfolding reply
+    asked-spi s x e k p = p ∙ ap seenQuestion (k ∙ ap (λ (n : ℕ). questionAnswer q (slotAnswer D n)) e) ∙ seen-asked (inTable (size D) raw) (slotOf (d .slots) raw) raw
+
+    pub unasked-spi : (f : Refusal) → toldSpi (SpiIdAnswer.Refused f) ≡ idAnswer 32 1020 raw → {a : Answer} → a ≡ valued (toldRefusal f) → a ≡ asked q (reply (ask q raw) D .answer)
+    unfolding reply
+    unasked-spi f e p = let o = spi-refused (d .«spi_count») raw f e in p ∙ ap valued (o .1) ∙ (rw (o .0))
+
+-- a call as a whole
+module _ (d : DistributorState) (room : List ℕ) where
+  unlisted : (k : Call) (r : Ran) → modelOf (r .state) ≡ after k (modelOf d) → r .answer ≡ numbersOf k (reply k (modelOf d) .answer) → reply k (modelOf d) .candidates ≡ [] → Performed k d room r room
   unlisted k r s a c = record { state = s; answer = a; lent = ap (λ (cs : List ℕ). laid cs room) (sym c) }
 
-  pub read-performed : (offset : ℕ) (w : AccessWidth) (r : Ran) (a : Answer) → r ≡ of d a → a ≡ valued (reply (read offset w) D .answer) → Performed (read offset w) d room r room
+  pub read-performed : (offset : ℕ) (w : AccessWidth) (r : Ran) (a : Answer) → r ≡ of d a → a ≡ valued (reply (read offset w) (modelOf d) .answer) → Performed (read offset w) d room r room
   unfolding reply
-  read-performed offset w r a e h = unlisted (read offset w) r (ap (λ (x : Ran). modelOf (x .state)) e ∙ still-read D offset w) (ap (λ (x : Ran). x .answer) e ∙ h) (read-unlisted D (decode Reading (d .config .«distributor_size») offset w))
+  read-performed offset w r a e h = unlisted (read offset w) r (ap (λ (x : Ran). modelOf (x .state)) e ∙ still-read (modelOf d) offset w) (ap (λ (x : Ran). x .answer) e ∙ h) (read-unlisted (modelOf d) (decode Reading (d .config .«distributor_size») offset w))
 
-  pub asked-performed : (q : Question) (raw : ℕ) (r : Ran) (a : Answer) → r ≡ of d a → a ≡ asked q (reply (ask q raw) D .answer) → Performed (ask q raw) d room r room
+  pub asked-performed : (q : Question) (raw : ℕ) (r : Ran) (a : Answer) → r ≡ of d a → a ≡ asked q (reply (ask q raw) (modelOf d) .answer) → Performed (ask q raw) d room r room
   unfolding reply
-  asked-performed q raw r a e h = unlisted (ask q raw) r (ap (λ (x : Ran). modelOf (x .state)) e ∙ still-ask D q raw) (ap (λ (x : Ran). x .answer) e ∙ h) refl
+  asked-performed q raw r a e h = unlisted (ask q raw) r (ap (λ (x : Ran). modelOf (x .state)) e ∙ still-ask (modelOf d) q raw) (ap (λ (x : Ran). x .answer) e ∙ h) refl
 
-  pub changed-performed : (h : Change) (raw : ℕ) (r : Ran) → modelOf (r .state) ≡ step (change h raw) D → r .answer ≡ valued (reply (change h raw) D .answer) → Performed (change h raw) d room r room
+  pub changed-performed : (h : Change) (raw : ℕ) (r : Ran) → modelOf (r .state) ≡ step (change h raw) (modelOf d) → r .answer ≡ valued (reply (change h raw) (modelOf d) .answer) → Performed (change h raw) d room r room
   unfolding reply
   changed-performed h raw r s a = unlisted (change h raw) r s a refl
 
@@ -120,11 +168,11 @@ module _ (d : DistributorState) (room : List ℕ) where
   unfolding reply
   created-performed c n r s a = unlisted (create c n) r s a refl
 
-  pub switch-performed : (r : Ran) (on : Bool) → r ≡ of d (numbers 0 (bit on) 0) → switchReply on ≡ reply isSwitchedOn D → Performed isSwitchedOn d room r room
+  pub switch-performed : (r : Ran) (on : Bool) → r ≡ of d (numbers 0 (bit on) 0) → switchReply on ≡ reply isSwitchedOn (modelOf d) → Performed isSwitchedOn d room r room
   unfolding reply
-  switch-performed r on e h = unlisted isSwitchedOn r (ap (λ (x : Ran). modelOf (x .state)) e ∙ still-switch D) (ap (λ (x : Ran). x .answer) e ∙ ap (λ (x : Reply). valued (x .answer)) h) refl
+  switch-performed r on e h = unlisted isSwitchedOn r (ap (λ (x : Ran). modelOf (x .state)) e ∙ still-switch (modelOf d)) (ap (λ (x : Ran). x .answer) e ∙ ap (λ (x : Reply). valued (x .answer)) h) refl
 
-  pub rollback-performed : (on : Bool) (r : Ran) (e : DistributorState) → r ≡ of e (numbers 0 0 0) → modelOf e ≡ step (rollback on) D → Performed (rollback on) d room r room
+  pub rollback-performed : (on : Bool) (r : Ran) (e : DistributorState) → r ≡ of e (numbers 0 0 0) → modelOf e ≡ step (rollback on) (modelOf d) → Performed (rollback on) d room r room
   unfolding reply
   rollback-performed on r e p h = unlisted (rollback on) r (ap (λ (x : Ran). modelOf (x .state)) p ∙ h) (ap (λ (x : Ran). x .answer) p) refl
 
@@ -140,22 +188,40 @@ module _ (d : DistributorState) (room : List ℕ) where
     abbrev K : Call
     K = write offset w v places
 
-    within-places : length (reply K D .candidates) ≤ places
-    within-places = go (ltb places (size D)) refl
+    within-places : length (reply K (modelOf d) .candidates) ≤ places
+    within-places = go (ltb places (size (modelOf d))) refl
       where
-        few : (r : Reply) → Lists D offset w v places r → length (r .candidates) ≤ size D
+        few : (r : Reply) → Lists (modelOf d) offset w v places r → length (r .candidates) ≤ size (modelOf d)
         few r (turnedDown n c) = omega arith
         few r (listed cs h) = h
 
-        go : (t : Bool) → ltb places (size D) ≡ t → length (reply K D .candidates) ≤ places
-        go true e = let h : reply K D .candidates ≡ [] = ap (λ (r : Reply). r .candidates) (write-5 D offset w v places (ltb-true _ _ e)) in rw h (omega arith)
-        go false e = let h : size D ≤ places = ltb-false _ _ e in let k = few (reply K D) (write-lists D offset w v places) in omega arith
+        go : (t : Bool) → ltb places (size (modelOf d)) ≡ t → length (reply K (modelOf d) .candidates) ≤ places
+        go true e = let h : reply K (modelOf d) .candidates ≡ [] = ap (λ (r : Reply). r .candidates) (write-5 (modelOf d) offset w v places (ltb-true _ _ e)) in rw h (omega arith)
+        go false e = let h : size (modelOf d) ≤ places = ltb-false _ _ e in let k = few (reply K (modelOf d)) (write-lists (modelOf d) offset w v places) in omega arith
 
-    pub write-performed : (r : Ran) (e : DistributorState) (a : told.Answer) (left : List ℕ) → places ≤ length room → r ≡ of e (numbered.listed a) → modelOf e ≡ step K D
-        → _≡_ {A = Outcome} (record { answer = a; list = left }) (outcome (reply K D) (take places room)) → Performed K d room r (left ++ drop places room)
+    pub write-performed : (r : Ran) (e : DistributorState) (a : told.Answer) (left : List ℕ) → places ≤ length room → r ≡ of e (numbered.listed a) → modelOf e ≡ step K (modelOf d)
+        → _≡_ {A = Outcome} (record { answer = a; list = left }) (outcome (reply K (modelOf d)) (take places room)) → Performed K d room r (left ++ drop places room)
     write-performed r e a left f p s o =
         record {
           state = ap (λ (x : Ran). modelOf (x .state)) p ∙ s;
           answer = ap (λ (x : Ran). x .answer) p ∙ ap (λ (x : Outcome). numbered.listed (x .answer)) o;
-          lent = ap (λ (x : Outcome). x .list ++ drop places room) o ∙ laid-front (reply K D .candidates) room places within-places f;
+          lent = ap (λ (x : Outcome). x .list ++ drop places room) o ∙ laid-front (reply K (modelOf d) .candidates) room places within-places f;
         }
+
+  -- p places are lent, by the number n
+  pub lent-performed : (offset : ℕ) (u w : AccessWidth) (v n p : ℕ) (r : Ran) (e : DistributorState) (a : told.Answer) (left : List ℕ) → p ≡ min n (length room) → u ≡ w
+      → r ≡ of e (numbered.listed a) → modelOf e ≡ step (write offset u v (length (take p room))) (modelOf d)
+      → _≡_ {A = Outcome} (record { answer = a; list = left }) (outcome (reply (write offset u v (length (take p room))) (modelOf d)) (take p room))
+      → Performed (write offset w v (min n (length room))) d room r (left ++ drop p room)
+  lent-performed offset u w v n p r e a left m x q s o =
+      let f : p ≤ length room = omega arith in
+      let l = length-take-le p room f in
+      subst (λ (k : ℕ). Performed (write offset w v k) d room r (left ++ drop p room)) m
+      (write-performed offset w v p r e a left f q
+      (s ∙ ap (λ (k : ℕ). step (write offset u v k) (modelOf d)) l ∙ ap (λ (y : AccessWidth). step (write offset y v p) (modelOf d)) x)
+      (o ∙ ap (λ (k : ℕ). outcome (reply (write offset u v k) (modelOf d)) (take p room)) l ∙ ap (λ (y : AccessWidth). outcome (reply (write offset y v p) (modelOf d)) (take p room)) x))
+
+-- the family of the call's number says which call it is
+pub meant : (k : code.Call) (d : DistributorState) (room left : List ℕ) (r : Ran) (f g : Family) → g ≡ familyOf (k .op) (k .b) → g ≡ f
+    → RanAs (meaningOf f k (length room)) d room r left → RanAs (callOf k (length room)) d room r left
+meant k d room left r f g e p x = subst (λ (h : Family). RanAs (meaningOf h k (length room)) d room r left) (sym p ∙ e) x

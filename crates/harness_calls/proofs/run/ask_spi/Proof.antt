@@ -1,44 +1,45 @@
+use mathlib.Core.Path.{sym, ap, _∙_}
+use Rattle.identifiers.specs.Answer.{toldSpi}
+use Rattle.harness_calls.proofs.Performing.{spi-given, asked-spi, unasked-spi}
 use borrow.Author.Needs.{needs}
 use Rattle.harness_calls.proofs.run.ask_spi.Statement.{statement}
 use Rattle.harness_calls.proofs.run.ask_spi.Tie as tie
-use Rattle.harness_calls.proofs.run.ask_spi.Reads as reads
-use Rattle.harness_calls.proofs.run.ask_spi.Lts as lts
-use Rattle.distributor.proofs.distributor.DistributorState.ask.Reads as ask-reads
-use Rattle.harness_numbers.proofs.answer.refused.Reads as refused-reads
-use Rattle.harness_numbers.proofs.question.seen.Reads as seen-reads
-use Rattle.identifiers.proofs.types.SpiId.new.Reads as new-reads
 
--- src/run.rt:94:11
 new-requires : tie.Need-new-requires
 new-requires c κs = search needs
 
--- src/run.rt:95:27
 enum-known-spi : tie.Need-enum-known-spi
 enum-known-spi c = search needs
 
--- src/run.rt:95:50
 ask-requires : tie.Need-ask-requires
 ask-requires c κs = search needs
 
--- src/run.rt:95:35
 seen-requires : tie.Need-seen-requires
 seen-requires c κs = search needs
 
--- src/run.rt:96:30
 enum-known-refusal : tie.Need-enum-known-refusal
 enum-known-refusal c = search needs
 
--- src/run.rt:96:42
 refused-requires : tie.Need-refused-requires
 refused-requires c κs = search needs
 
--- src/run.rt:91:1
 returns : tie.Need-returns
-returns c = ?
+returns c = 
+    let k = c .before in
+    let t = k .before .before in
+    let n = t .before .before in
+    let a = n .before .args in
+    asked-spi (a .d) (a .raw) (a .question) (t .spi .given .0 .0) (k .ask .result)
+    (spi-given (a .raw) (t .spi .given .0 .0) (sym (ap toldSpi (t .spi .given .1)) ∙ n .new .ensures))
+    (k .ask .ensures .0) (c .seen .ensures)
 
--- src/run.rt:91:1
 returns-2 : tie.Need-returns-2
-returns-2 c = ?
+returns-2 c = 
+    let t = c .before .before in
+    let n = t .before .before in
+    let a = n .before .args in
+    unasked-spi (a .d) (a .raw) (a .question) (t .refusal .given .0 .0)
+    (sym (ap toldSpi (t .refusal .given .1)) ∙ n .new .ensures) (c .refused .ensures)
 
 pub ask-spi-spec : {M : Type 1} → statement M
 ask-spi-spec =
