@@ -22,9 +22,6 @@ use Rattle.place.specs.TableLaws.{in-range}
 use Rattle.bank.specs.Banks.{bit}
 use Rattle.controller.specs.declared.controller.ControllerConfig.{ControllerConfig}
 use Rattle.registers.specs.declared.register.AccessWidth.{AccessWidth}
-use Rattle.registers.specs.declared.register.Register.the-variants.{Identification, Ctlr, Typer, Iidr, Fields, Reserved}
-use Rattle.registers.specs.declared.register.Access.{Access}
-use Rattle.registers.specs.declared.register.Access.the-variants.{To, Refused}
 use Rattle.registers.specs.declared.register.Direction.the-variants.{Reading}
 use Rattle.decoding.specs.Decoding.{decode}
 use Rattle.slot.specs.declared.slot.Slot.{Slot}
@@ -36,7 +33,7 @@ use Rattle.spi.specs.declared.question.QuestionAnswer.{QuestionAnswer}
 use Rattle.spi.specs.ChangeAnswers.{toldChange}
 use Rattle.spi.specs.Questions.{valueOf, toldValue, questionAnswer}
 use Rattle.spi.specs.declared.question.Question.{Question}
-use Rattle.model.specs.Calls.{Distributor, Call, create, read, write, isSwitchedOn, rollback, change, ask, Reply, Outcome, outcome, size, created, reply, step, readReply}
+use Rattle.model.specs.Calls.{Distributor, Call, create, read, write, isSwitchedOn, rollback, change, ask, Reply, Outcome, outcome, size, created, reply, step}
 use Rattle.model.specs.Replies.{Lists, turnedDown, listed, write-5, write-lists}
 use Rattle.distributor.specs.declared.distributor.DistributorState.{DistributorState}
 use Rattle.distributor.specs.declared.host.Changed.{Changed}
@@ -51,6 +48,7 @@ use Rattle.harness_numbers.specs.Numbers.{familyOf, meaningOf, callOf, numbers,
 use Rattle.harness_numbers.specs.Values.{seenQuestion, value-asked}
 use Rattle.harness_calls.specs.declared.run.Ran.{Ran}
 use Rattle.harness_calls.specs.Ran.{after, Performed, RanAs}
+use Rattle.harness_calls.specs.Runs.{read-unlisted}
 
 -- ---- the makers of SPI identifiers, and the table
 
@@ -96,15 +94,6 @@ module _ (d : Distributor) where
   still-ask : (q : Question) (raw : ℕ) → d ≡ step (ask q raw) d
   unfolding step
   still-ask q raw = same
-
-  read-unlisted : (a : Access) → readReply d a .candidates ≡ []
-  read-unlisted (Refused f) = refl
-  read-unlisted (To (Identification k)) = refl
-  read-unlisted (To Ctlr) = refl
-  read-unlisted (To Typer) = refl
-  read-unlisted (To Iidr) = refl
-  read-unlisted (To (Fields b lo m)) = refl
-  read-unlisted (To Reserved) = refl
 
 -- ---- what each part gives
 
