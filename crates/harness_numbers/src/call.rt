@@ -33,6 +33,12 @@ pub enum Family {
     Unknown,
 }
 
+fn operate(operation: Operation) -> Family
+    ensures { λ r. ⌜ r ≡ Family.Change (Change.Operate operation) ⌝ }
+{
+    Family::Change(Change::Operate(operation))
+}
+
 // The call of a number, with its argument b. The rows are the same as in specs/Numbers.antt.
 pub fn family_of(op: u64, b: u64) -> Family
     ensures { λ r. ⌜ r ≡ familyOf op b ⌝ }
@@ -57,30 +63,30 @@ pub fn family_of(op: u64, b: u64) -> Family
         0x19 => Family::Asking(Question::CpuTargetMask),
         0x20 => Family::Asking(Question::Intid),
         0x21 => Family::Asking(Question::Enabled),
-        0x22 => Family::Change(Change::Operate(Operation::SetEnabled(on))),
+        0x22 => operate(Operation::SetEnabled(on)),
         0x23 => Family::Asking(Question::Pending),
-        0x24 => Family::Change(Change::Operate(Operation::SetPending(on))),
+        0x24 => operate(Operation::SetPending(on)),
         0x25 => Family::Asking(Question::Active),
-        0x26 => Family::Change(Change::Operate(Operation::SetActive(on))),
+        0x26 => operate(Operation::SetActive(on)),
         0x27 => Family::Asking(Question::State),
-        0x28 => Family::Change(Change::Operate(Operation::SetState(state))),
+        0x28 => operate(Operation::SetState(state)),
         0x29 => Family::Asking(Question::HasDeliveryState),
-        0x2a => Family::Change(Change::Operate(Operation::ClearDeliveryState)),
-        0x2b => Family::Change(Change::Operate(Operation::MarkInflight)),
+        0x2a => operate(Operation::ClearDeliveryState),
+        0x2b => operate(Operation::MarkInflight),
         0x2c => Family::Change(Change::SynchronizeInflight(state)),
-        0x2d => Family::Change(Change::Operate(Operation::CancelInflight)),
-        0x2e => Family::Change(Change::Operate(Operation::FinishInflight)),
-        0x2f => Family::Change(Change::Operate(Operation::DeactivateInflight(on))),
+        0x2d => operate(Operation::CancelInflight),
+        0x2e => operate(Operation::FinishInflight),
+        0x2f => operate(Operation::DeactivateInflight(on)),
         0x30 => Family::Asking(Question::Priority),
-        0x31 => Family::Change(Change::Operate(Operation::SetPriority(priority))),
+        0x31 => operate(Operation::SetPriority(priority)),
         0x32 => Family::Asking(Question::Trigger),
-        0x33 => Family::Change(Change::Operate(Operation::SetTrigger(trigger))),
+        0x33 => operate(Operation::SetTrigger(trigger)),
         0x34 => Family::Asking(Question::Route),
-        0x35 => Family::Change(Change::Operate(Operation::SetRoute(affinity))),
-        0x36 => Family::Change(Change::Operate(Operation::ClearRoute)),
-        0x37 => Family::Change(Change::Operate(Operation::SetLevel(on))),
-        0x38 => Family::Change(Change::Operate(Operation::Pulse)),
-        0x39 => Family::Change(Change::Operate(Operation::Complete)),
+        0x35 => operate(Operation::SetRoute(affinity)),
+        0x36 => operate(Operation::ClearRoute),
+        0x37 => operate(Operation::SetLevel(on)),
+        0x38 => operate(Operation::Pulse),
+        0x39 => operate(Operation::Complete),
         0x3a => Family::Asking(Question::Deliverable),
         _ => Family::Unknown,
     }

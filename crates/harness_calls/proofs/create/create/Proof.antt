@@ -18,7 +18,7 @@ made-requires : tie.Need-made-requires
 made-requires c κs = search needs
 
 returns : tie.Need-returns
-returns c = 
+returns c =
     let n = c .before .before in
     let l = n .before in
     (n .new .ensures .0 ∙ (rw (l .before .config .ensures, l .low-word .ensures)), c .made .ensures ∙ ap valued (n .new .ensures .1 ∙ ap createAnswer (l .low-word .ensures)))

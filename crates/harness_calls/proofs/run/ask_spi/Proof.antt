@@ -24,7 +24,7 @@ refused-requires : tie.Need-refused-requires
 refused-requires c κs = search needs
 
 returns : tie.Need-returns
-returns c = 
+returns c =
     let k = c .before in
     let t = k .before .before in
     let n = t .before .before in
@@ -34,7 +34,7 @@ returns c =
     (k .ask .ensures .0) (c .seen .ensures)
 
 returns-2 : tie.Need-returns-2
-returns-2 c = 
+returns-2 c =
     let t = c .before .before in
     let n = t .before .before in
     let a = n .before .args in

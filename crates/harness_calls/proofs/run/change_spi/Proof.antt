@@ -30,7 +30,7 @@ kept-requires-2 : tie.Need-kept-requires-2
 kept-requires-2 c κs = search needs
 
 returns : tie.Need-returns
-returns c = 
+returns c =
     let s = c .before in
     let x = s .before .before in
     let t = x .before .before in
@@ -41,7 +41,7 @@ returns c =
     (x .change .ensures) (c .kept .ensures ∙ ap (of (x .change .result .state)) (s .seen .ensures))
 
 returns-2 : tie.Need-returns-2
-returns-2 c = 
+returns-2 c =
     let f = c .before in
     let t = f .before .before in
     let n = t .before .before in

@@ -17,7 +17,7 @@ read-requires-2 : tie.Need-read-requires-2
 read-requires-2 c κs = search needs
 
 returns : tie.Need-returns
-returns c = 
+returns c =
     let r = c .before in
     let w = r .before in
     let a = w .before .args in

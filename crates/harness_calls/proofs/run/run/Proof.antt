@@ -106,21 +106,21 @@ kept-requires-6 : tie.Need-kept-requires-6
 kept-requires-6 c κs = search needs
 
 returns : tie.Need-returns
-returns c = 
+returns c =
     let fm = c .before .before .before .before in
     let a = fm .before .before .args in
     meant (a .call) (a .d) (now (a .room)) _ (c .kept .result) Identifier _ (fm .family-of .ensures) (c .before .before .enum-told .given .1)
     (record { state = ap (λ (x : Ran). x .state) (c .kept .ensures); lent = refl })
 
 returns-2 : tie.Need-returns-2
-returns-2 c = 
+returns-2 c =
     let fm = c .before .before .before in
     let a = fm .before .before .args in
     meant (a .call) (a .d) (now (a .room)) _ (c .create .result) Creation _ (fm .family-of .ensures) (c .before .enum-told2 .given .1)
     (created-performed (a .d) (now (a .room)) _ _ (c .create .result) (c .create .ensures .0) (c .create .ensures .1))
 
 returns-3 : tie.Need-returns-3
-returns-3 c = 
+returns-3 c =
     let fm = c .before .before .before .before in
     let a = fm .before .before .args in
     meant (a .call) (a .d) (now (a .room)) _ (c .kept2 .result) Read _ (fm .family-of .ensures) (c .before .before .enum-told3 .given .1)
@@ -130,21 +130,21 @@ same-length : tie.Need-same-length
 same-length c = search needs
 
 returns-4 : tie.Need-returns-4
-returns-4 c = 
+returns-4 c =
     let fm = c .before .before .before .before .before .before in
     let a = fm .before .before .args in
     meant (a .call) (a .d) (now (a .room)) _ (c .before .before .write .result) Write _ (fm .family-of .ensures) (c .before .before .before .before .enum-told4 .given .1)
     (c .before .before .write .ensures)
 
 returns-5 : tie.Need-returns-5
-returns-5 c = 
+returns-5 c =
     let fm = c .before .before .before .before .before .before in
     let a = fm .before .before .args in
     meant (a .call) (a .d) (now (a .room)) _ (c .kept3 .result) Switch _ (fm .family-of .ensures) (c .before .before .before .before .enum-told5 .given .1)
     (switch-performed (a .d) (now (a .room)) (c .kept3 .result) (c .before .before .before .is-switched-on .result) (c .kept3 .ensures ∙ ap (of (a .d)) (c .before .done .ensures ∙ ap (λ (n : ℕ). numbers 0 n 0) (c .before .before .bit .ensures))) (c .before .before .before .is-switched-on .ensures))
 
 returns-6 : tie.Need-returns-6
-returns-6 c = 
+returns-6 c =
     let fm = c .before .before .before .before .before .before in
     let a = fm .before .before .args in
     meant (a .call) (a .d) (now (a .room)) _ (c .kept4 .result) Rollback _ (fm .family-of .ensures) (c .before .before .before .before .enum-told6 .given .1)
@@ -152,7 +152,7 @@ returns-6 c =
     (rollback-performed (a .d) (now (a .room)) _ (c .kept4 .result) (c .before .before .set-enabled-for-rollback .result) (c .kept4 .ensures ∙ ap (of (c .before .before .set-enabled-for-rollback .result)) (c .before .done2 .ensures)) (c .before .before .set-enabled-for-rollback .ensures)))
 
 returns-7 : tie.Need-returns-7
-returns-7 c = 
+returns-7 c =
     let fm = c .before .before .before .before .before in
     let a = fm .before .before .args in
     meant (a .call) (a .d) (now (a .room)) _ (c .change-spi .result) (Change (c .before .before .before .what .given .0 .0)) _ (fm .family-of .ensures) (c .before .before .before .what .given .1)
@@ -160,7 +160,7 @@ returns-7 c =
     (changed-performed (a .d) (now (a .room)) _ _ (c .change-spi .result) (c .change-spi .ensures .0) (c .change-spi .ensures .1)))
 
 returns-8 : tie.Need-returns-8
-returns-8 c = 
+returns-8 c =
     let fm = c .before .before .before .before .before .before in
     let a = fm .before .before .args in
     meant (a .call) (a .d) (now (a .room)) _ (c .kept5 .result) (Asking (c .before .before .before .before .question .given .0 .0)) _ (fm .family-of .ensures) (c .before .before .before .before .question .given .1)
@@ -168,7 +168,7 @@ returns-8 c =
     (asked-performed (a .d) (now (a .room)) _ _ (c .kept5 .result) (c .before .ask-spi .result) (c .kept5 .ensures) (c .before .ask-spi .ensures)))
 
 returns-9 : tie.Need-returns-9
-returns-9 c = 
+returns-9 c =
     let fm = c .before .before .before .before in
     let a = fm .before .before .args in
     meant (a .call) (a .d) (now (a .room)) _ (c .kept6 .result) Unknown _ (fm .family-of .ensures) (c .before .before .enum-told7 .given .1)

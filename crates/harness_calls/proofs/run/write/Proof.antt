@@ -34,7 +34,7 @@ same-length : tie.Need-same-length
 same-length c = search needs
 
 returns : tie.Need-returns
-returns c = 
+returns c =
     let wt = c .before in
     let wr = wt .before .before .before .before in
     let wd = wr .before .before in

@@ -57,6 +57,54 @@ trigger-requires c κs = search needs
 from-mpidr-requires : tie.Need-from-mpidr-requires
 from-mpidr-requires c κs = search needs
 
+operate-requires : tie.Need-operate-requires
+operate-requires c κs = search needs
+
+operate-requires-2 : tie.Need-operate-requires-2
+operate-requires-2 c κs = search needs
+
+operate-requires-3 : tie.Need-operate-requires-3
+operate-requires-3 c κs = search needs
+
+operate-requires-4 : tie.Need-operate-requires-4
+operate-requires-4 c κs = search needs
+
+operate-requires-5 : tie.Need-operate-requires-5
+operate-requires-5 c κs = search needs
+
+operate-requires-6 : tie.Need-operate-requires-6
+operate-requires-6 c κs = search needs
+
+operate-requires-7 : tie.Need-operate-requires-7
+operate-requires-7 c κs = search needs
+
+operate-requires-8 : tie.Need-operate-requires-8
+operate-requires-8 c κs = search needs
+
+operate-requires-9 : tie.Need-operate-requires-9
+operate-requires-9 c κs = search needs
+
+operate-requires-10 : tie.Need-operate-requires-10
+operate-requires-10 c κs = search needs
+
+operate-requires-11 : tie.Need-operate-requires-11
+operate-requires-11 c κs = search needs
+
+operate-requires-12 : tie.Need-operate-requires-12
+operate-requires-12 c κs = search needs
+
+operate-requires-13 : tie.Need-operate-requires-13
+operate-requires-13 c κs = search needs
+
+operate-requires-14 : tie.Need-operate-requires-14
+operate-requires-14 c κs = search needs
+
+operate-requires-15 : tie.Need-operate-requires-15
+operate-requires-15 c κs = search needs
+
+operate-requires-16 : tie.Need-operate-requires-16
+operate-requires-16 c κs = search needs
+
 returns : tie.Need-returns
 returns c = rw (c .match .keys1)
 
@@ -94,78 +142,78 @@ returns-12 : tie.Need-returns-12
 returns-12 c = rw (c .match .keys12)
 
 returns-13 : tie.Need-returns-13
-returns-13 c = rw (c .before .before .before .before .before .before .odd .ensures, c .match .keys13)
+returns-13 c = rw (c .operate .ensures, c .before .before .before .before .before .before .before .odd .ensures, c .before .match .keys13)
 
 returns-14 : tie.Need-returns-14
 returns-14 c = rw (c .match .keys14)
 
 returns-15 : tie.Need-returns-15
-returns-15 c = rw (c .before .before .before .before .before .before .odd .ensures, c .match .keys15)
+returns-15 c = rw (c .operate2 .ensures, c .before .before .before .before .before .before .before .odd .ensures, c .before .match .keys15)
 
 returns-16 : tie.Need-returns-16
 returns-16 c = rw (c .match .keys16)
 
 returns-17 : tie.Need-returns-17
-returns-17 c = rw (c .before .before .before .before .before .before .odd .ensures, c .match .keys17)
+returns-17 c = rw (c .operate3 .ensures, c .before .before .before .before .before .before .before .odd .ensures, c .before .match .keys17)
 
 returns-18 : tie.Need-returns-18
 returns-18 c = rw (c .match .keys18)
 
 returns-19 : tie.Need-returns-19
-returns-19 c = rw (c .before .before .before .state .ensures, c .match .keys19)
+returns-19 c = rw (c .operate4 .ensures, c .before .before .before .before .state .ensures, c .before .match .keys19)
 
 returns-20 : tie.Need-returns-20
 returns-20 c = rw (c .match .keys20)
 
 returns-21 : tie.Need-returns-21
-returns-21 c = rw (c .match .keys21)
+returns-21 c = rw (c .operate5 .ensures, c .before .match .keys21)
 
 returns-22 : tie.Need-returns-22
-returns-22 c = rw (c .match .keys22)
+returns-22 c = rw (c .operate6 .ensures, c .before .match .keys22)
 
 returns-23 : tie.Need-returns-23
 returns-23 c = rw (c .before .before .before .state .ensures, c .match .keys23)
 
 returns-24 : tie.Need-returns-24
-returns-24 c = rw (c .match .keys24)
+returns-24 c = rw (c .operate7 .ensures, c .before .match .keys24)
 
 returns-25 : tie.Need-returns-25
-returns-25 c = rw (c .match .keys25)
+returns-25 c = rw (c .operate8 .ensures, c .before .match .keys25)
 
 returns-26 : tie.Need-returns-26
-returns-26 c = rw (c .before .before .before .before .before .before .odd .ensures, c .match .keys26)
+returns-26 c = rw (c .operate9 .ensures, c .before .before .before .before .before .before .before .odd .ensures, c .before .match .keys26)
 
 returns-27 : tie.Need-returns-27
 returns-27 c = rw (c .match .keys27)
 
 returns-28 : tie.Need-returns-28
 returns-28 c =
-    ap (λ (n : ℕ). Change (Operate (SetPriority (record { 0 = n })))) (c .before .before .before .before .new .ensures ∙ c .before .before .before .before .before .low-byte .ensures)
-    ∙ ap (λ (n : ℕ). familyOf n (c .before .before .before .before .before .before .before .args .b)) (sym (c .match .keys28))
+    c .operate10 .ensures ∙ ap (λ (n : ℕ). Change (Operate (SetPriority (record { 0 = n })))) (c .before .before .before .before .before .new .ensures ∙ c .before .before .before .before .before .before .low-byte .ensures)
+    ∙ ap (λ (n : ℕ). familyOf n (c .before .before .before .before .before .before .before .before .args .b)) (sym (c .before .match .keys28))
 
 returns-29 : tie.Need-returns-29
 returns-29 c = rw (c .match .keys29)
 
 returns-30 : tie.Need-returns-30
-returns-30 c = rw (c .before .before .trigger .ensures, c .match .keys30)
+returns-30 c = rw (c .operate11 .ensures, c .before .before .before .trigger .ensures, c .before .match .keys30)
 
 returns-31 : tie.Need-returns-31
 returns-31 c = rw (c .match .keys31)
 
 returns-32 : tie.Need-returns-32
-returns-32 c = rw (c .before .from-mpidr .ensures, c .match .keys32)
+returns-32 c = rw (c .operate12 .ensures, c .before .before .from-mpidr .ensures, c .before .match .keys32)
 
 returns-33 : tie.Need-returns-33
-returns-33 c = rw (c .match .keys33)
+returns-33 c = rw (c .operate13 .ensures, c .before .match .keys33)
 
 returns-34 : tie.Need-returns-34
-returns-34 c = rw (c .before .before .before .before .before .before .odd .ensures, c .match .keys34)
+returns-34 c = rw (c .operate14 .ensures, c .before .before .before .before .before .before .before .odd .ensures, c .before .match .keys34)
 
 returns-35 : tie.Need-returns-35
-returns-35 c = rw (c .match .keys35)
+returns-35 c = rw (c .operate15 .ensures, c .before .match .keys35)
 
 returns-36 : tie.Need-returns-36
-returns-36 c = rw (c .match .keys36)
+returns-36 c = rw (c .operate16 .ensures, c .before .match .keys36)
 
 returns-37 : tie.Need-returns-37
 returns-37 c = rw (c .match .keys37)
@@ -189,6 +237,22 @@ family-of-spec =
     state-requires
     trigger-requires
     from-mpidr-requires
+    operate-requires
+    operate-requires-2
+    operate-requires-3
+    operate-requires-4
+    operate-requires-5
+    operate-requires-6
+    operate-requires-7
+    operate-requires-8
+    operate-requires-9
+    operate-requires-10
+    operate-requires-11
+    operate-requires-12
+    operate-requires-13
+    operate-requires-14
+    operate-requires-15
+    operate-requires-16
     returns
     returns-2
     returns-3
