@@ -6,7 +6,6 @@ use mathlib.Core.Bool.{Bool, true, false}
 use mathlib.Core.List.{List, [], _∷_, _++_}
 use mathlib.Core.Option.{Option, some, none}
 use lib.ListN.{length, take, drop, getElem?}
-use Rattle.theory.specs.Lists.{laid}
 use Rattle.theory.specs.Runs.{run, answers, naming, Matching}
 use Rattle.identifiers.specs.Answer as told
 use Rattle.registers.specs.declared.register.AccessWidth.{AccessWidth}
@@ -66,15 +65,6 @@ pub data Runs : List Call → DistributorState → List Seen → DistributorStat
 
 -- ---- the count in the answer is the number of the candidates
 
-after-step : (k : Call) (d : Distributor) → ofTheSame k ≡ true → after k d ≡ step k d
-after-step (create c n) d h = cc
-after-step (read offset w) d h = refl
-after-step (write offset w v places) d h = refl
-after-step isSwitchedOn d h = refl
-after-step (rollback on) d h = refl
-after-step (change h raw) d _ = refl
-after-step (ask q raw) d h = refl
-
 valued-count : (a : told.Answer) → valued a .count ≡ 0
 valued-count (told.done vs) = refl
 valued-count (told.refused n vs) = refl
@@ -115,6 +105,15 @@ front [] l = refl
 front (c ∷ cs) l = ap (λ (m : List ℕ). c ∷ m) (front cs l)
 
 -- ---- the theorem
+
+after-step : (k : Call) (d : Distributor) → ofTheSame k ≡ true → after k d ≡ step k d
+after-step (create c n) d h = cc
+after-step (read offset w) d h = refl
+after-step (write offset w v places) d h = refl
+after-step isSwitchedOn d h = refl
+after-step (rollback on) d h = refl
+after-step (change h raw) d _ = refl
+after-step (ask q raw) d h = refl
 
 -- what is seen of a call is what its reply is told as
 seen-so : (k : Call) (d : DistributorState) (room left : List ℕ) (r : Ran) → Performed k d room r left → seen r left ≡ seenOf k (modelOf d)

@@ -18,7 +18,9 @@ ghost use Rattle.distributor.specs.Model.{modelOf};
 ghost use Rattle.harness_numbers.specs.Numbers.{odd, lowWord, settingsBy, valued};
 
 // Before any creation there is a Distributor with no SPIs, as after one that is refused.
-pub fn nothing() -> DistributorState {
+pub fn nothing() -> DistributorState
+    ensures { λ r. ⌜ modelOf r ≡ created (settingsBy 0 0 0) 0 ⌝ }
+{
     let created = DistributorState::new(config(0, 0, 0), 0);
     created.state
 }

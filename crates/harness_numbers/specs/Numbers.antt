@@ -18,7 +18,6 @@ use Rattle.spi.specs.declared.question.Question.the-variants.{Intid, Enabled, P
 use Rattle.registers.specs.declared.register.AccessWidth.{AccessWidth}
 use Rattle.registers.specs.declared.register.AccessWidth.the-variants.{Byte, Word, Dword, Qword}
 use Rattle.controller.specs.declared.controller.ControllerConfig.{ControllerConfig}
-use Rattle.controller.specs.declared.controller.GicV3SpiOwnership.{GicV3SpiOwnership}
 use Rattle.controller.specs.declared.controller.GicV3SpiOwnership.the-variants.{AllGuestOwned, Explicit}
 use Rattle.model.specs.Calls as model
 use Rattle.harness_numbers.specs.declared.answer.Answer.{Answer}

@@ -1,3 +1,4 @@
+-- `change_spi` meets its contract: a number that is no SPI's is in no table, and the definition refuses it too.
 use mathlib.Core.Path.{sym, ap, _∙_}
 use Rattle.identifiers.specs.Answer.{toldSpi}
 use Rattle.harness_calls.proofs.Performing.{of, spi-given, changed-spi, unchanged-spi}

@@ -1,3 +1,4 @@
+-- `run` meets its contract: the family says which call it is, and each arm does that call.
 use Prim.Native.Nat.{ℕ}
 use mathlib.Core.Path.{refl, ap, subst, _∙_}
 use mathlib.Core.Bool.{Bool}

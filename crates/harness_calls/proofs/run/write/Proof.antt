@@ -1,3 +1,4 @@
+-- `write` meets its contract: the first places of the room are lent, and the others are untouched.
 use mathlib.Core.Path.{sym, ap, _∙_}
 use native.Mathlib.Omega.{arith}
 use lib.Seq.{length-take-le}
