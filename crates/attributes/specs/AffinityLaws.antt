@@ -1,5 +1,5 @@
 -- Affinity and MPIDR: packing loses nothing, and unpacking keeps bits 39..32 and 23..0.
-use Prim.Native.Nat.{ℕ, _+_, _*_, _%_, _^_, _<_}
+use Prim.Native.Nat.{ℕ, _+_, _*_, _/_, _%_, _^_, _<_}
 use mathlib.Core.Path.{_≡_}
 use native.Mathlib.Omega.{arith}
 use Rattle.attributes.specs.declared.attributes.GicAffinity.{GicAffinity}
@@ -30,3 +30,7 @@ fromMpidr-mpidr a b =
 
 pub mpidr-fromMpidr : (v : ℕ) → mpidrOf (fromMpidr v) ≡ kept v
 mpidr-fromMpidr v = omega arith
+
+-- Aff3 is bits 39..32, Aff2 bits 23..16, Aff1 bits 15..8 and Aff0 bits 7..0
+pub mpidr-levels : (a : GicAffinity) → Bytes a → (mpidrOf a / 2 ^ 32 ≡ a .aff3) × (mpidrOf a / 2 ^ 16 % 2 ^ 16 ≡ a .aff2) × (mpidrOf a / 2 ^ 8 % 2 ^ 8 ≡ a .aff1) × (mpidrOf a % 2 ^ 8 ≡ a .aff0)
+mpidr-levels a b = (omega arith, omega arith, omega arith, omega arith)

@@ -85,8 +85,8 @@ pub field-bits : map bitsOf banks ≡ 1 ∷ 1 ∷ 1 ∷ 1 ∷ 1 ∷ 1 ∷ 1 ∷ 
 field-bits = refl
 
 -- which banks list what they touched
-pub listing : those lists ≡ ISENABLER ∷ ISPENDR ∷ ICACTIVER ∷ IROUTER ∷ []
-listing = refl
+pub listing-banks : those lists ≡ ISENABLER ∷ ISPENDR ∷ ICACTIVER ∷ IROUTER ∷ []
+listing-banks = refl
 
 -- a 0 in a flag bank does nothing, a 1 acts; of the other banks IGROUPR takes no write and the rest every one
 pub acting-0 : those (λ b. acts b 0) ≡ IPRIORITYR ∷ ICFGR ∷ IROUTER ∷ []

@@ -74,12 +74,12 @@ module _ (o : Ownership) (r : InterruptRecord) where
   synchronizes t = (refl, refl, synchronized-intid t r, merged-is t r, synchronized-settings t r)
 
 -- a claim of either kind is done exactly when the SPI is unclaimed
-pub claimed-once : (a : GicAffinity) (mark : Bool) →
+pub claim-once : (a : GicAffinity) (mark : Bool) →
     (happens Claim (held true mark) ≡ false) ×
     (happens (ClaimTo a) (held true mark) ≡ false) ×
     (happens Claim (held false mark) ≡ true) ×
     (happens (ClaimTo a) (held false mark) ≡ true)
-claimed-once a mark = (refl, refl, refl, refl)
+claim-once a mark = (refl, refl, refl, refl)
 
 -- a target mask is set exactly when the route is not fixed
 pub mask-unless-fixed : (m : ℕ) (claim : Bool) → (happens (SetCpuTargetMask m) (held claim true) ≡ false) × (happens (SetCpuTargetMask m) (held claim false) ≡ true)

@@ -17,7 +17,7 @@ use Rattle.registers.specs.declared.register.Direction.the-variants.{Writing}
 use Rattle.registers.specs.declared.register.Register.the-variants.{Reserved}
 use Rattle.registers.specs.declared.register.Access.the-variants.{To, Refused}
 use Rattle.registers.specs.Registers.{bytesOf, map, lookup}
-use Rattle.registers.specs.FrameLaws.{isRegister, needsAnother, reached, taken, width-decides}
+use Rattle.registers.specs.FrameLaws.{isRegister, needsAnother, reached, byWidth, width-decides}
 use Rattle.registers.specs.FrameLaws as frame-laws
 use Rattle.decoding.specs.Decoding.{legal, decode, writeAccess}
 
@@ -36,7 +36,7 @@ illegal-when frame o w = (
 
 module _ (d : Direction) (frame o : ℕ) (w : AccessWidth) where
   -- 3 before 4, and no other refusal
-  pub decoded : decode d frame o w ≡ cond (legal frame o w) (taken d o w (reached (lookup d map o w))) (Refused InvalidAccess)
+  pub decoded : decode d frame o w ≡ cond (legal frame o w) (byWidth d o w (reached (lookup d map o w))) (Refused InvalidAccess)
   unfolding decode
   decoded = ap (λ x. cond (legal frame o w) x (Refused InvalidAccess)) (width-decides d o w)
 
@@ -71,9 +71,9 @@ module _ (d : Direction) (frame o : ℕ) (w : AccessWidth) where
   )
 
   -- a legal access to no register reads 0, or is ignored
-  pub reserved : decode d frame o w ≡ To Reserved ↔ (legal frame o w ≡ true) × (isRegister o ≡ false)
+  pub reserved-legal : decode d frame o w ≡ To Reserved ↔ (legal frame o w ≡ true) × (isRegister o ≡ false)
   unfolding decode
-  reserved = go (legal frame o w)
+  reserved-legal = go (legal frame o w)
     where
       go : (l : Bool) → cond l (lookup d map o w) (Refused InvalidAccess) ≡ To Reserved ↔ (l ≡ true) × (isRegister o ≡ false)
       go true = ((λ e. (refl, frame-laws.reserved d o w .0 e)), (λ h. frame-laws.reserved d o w .1 (h .1)))
@@ -88,7 +88,7 @@ module _ (places spis frame o : ℕ) (w : AccessWidth) where
       go true r = refl
       go false r = ⊎-elim (λ a. cc) (λ a. cc) (refused-by Writing frame o w ShortList r)
 
-  -- with places enough a write is decoded as a read is
+  -- with places enough a write is decoded by its offset and width alone
   pub long-list : spis ≤ places → writeAccess places spis frame o w ≡ decode Writing frame o w
   long-list h = rw (le-ltb places spis h)
 

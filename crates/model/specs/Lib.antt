@@ -1,4 +1,5 @@
 pub mod Calls
+pub mod Reads
 pub mod Replies
 pub mod RefusedWhen
 pub mod Typed

@@ -1,4 +1,5 @@
-// Places in the table of SPIs. Only the two makers below make one, and an INTID is none.
+// Places in the table of SPIs. An INTID is none: `new` makes its place, or refuses; `nearest` takes any number to a place, for loops
+// whose bounds already say that the table has the INTID.
 use identifiers::error::Refusal;
 ghost use mathlib.Core.Path.{_≡_};
 ghost use Prim.Native.Nat.{_+_, _-_, min, max};

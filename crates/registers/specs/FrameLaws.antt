@@ -1,5 +1,5 @@
--- The frame, offset by offset, in the paper's words: where a register lies, and which width it needs. The two definitions here do not
--- look at the map, so that a wrong row of it breaks a law.
+-- The frame, offset by offset, in the paper's words: where a register lies, and which width it needs. These definitions do not look at
+-- the map, so that a wrong row of it breaks a law.
 use Prim.Native.Nat.{ℕ, _+_, _-_, _*_, _%_, _≤_, _<_}
 use mathlib.Core.Path.{_≡_, refl, sym, _∙_}
 use mathlib.Core.Bool.{Bool, true, false, not, _&&_, _||_, cond}
@@ -44,14 +44,14 @@ abbrev pub needsAnother : Direction → ℕ → AccessWidth → Bool
 needsAnother d o w = cond (needsDword d o) (not (eqb (bytesOf w) 4)) (within 0x6000 0x7fe0 o && not (eqb (bytesOf w) 8))
 
 -- such an access is refused 4; any other reaches the register
-abbrev pub taken : Direction → ℕ → AccessWidth → Register → Access
-taken d o w g = cond (needsAnother d o w) (Refused InvalidWidth) (To g)
+abbrev pub byWidth : Direction → ℕ → AccessWidth → Register → Access
+byWidth d o w g = cond (needsAnother d o w) (Refused InvalidWidth) (To g)
 
 -- ---- the registers with no INTID
 
 -- CTLR lies at 0x0, TYPER at 0x4, IIDR at 0x8
 pub fixed-places : (d : Direction) (w : AccessWidth)
-    → (lookup d map 0x0 w ≡ taken d 0x0 w Ctlr) × (lookup d map 0x4 w ≡ taken d 0x4 w Typer) × (lookup d map 0x8 w ≡ taken d 0x8 w Iidr)
+    → (lookup d map 0x0 w ≡ byWidth d 0x0 w Ctlr) × (lookup d map 0x4 w ≡ byWidth d 0x4 w Typer) × (lookup d map 0x8 w ≡ byWidth d 0x8 w Iidr)
 fixed-places Reading Byte = (refl, refl, refl)
 fixed-places Reading Word = (refl, refl, refl)
 fixed-places Reading Dword = (refl, refl, refl)
@@ -269,7 +269,7 @@ module _ (o : ℕ) (w : AccessWidth) where
       (rw (merged (words 0xffd0 0x10000 o) (eqb o 0), merged _ (words 0x100 0x400 o), merged _ (words 0xc00 0xd00 o), and-cond (within 0x6000 0x7fe0 o), only-dword w, only-qword w))
 
 -- refused 4, or a register, and no other refusal
-pub width-decides : (d : Direction) (o : ℕ) (w : AccessWidth) → lookup d map o w ≡ taken d o w (reached (lookup d map o w))
+pub width-decides : (d : Direction) (o : ℕ) (w : AccessWidth) → lookup d map o w ≡ byWidth d o w (reached (lookup d map o w))
 width-decides d o w = rw (← refuses-is o w d) (decided d map o w)
 
 pub width-refused : (d : Direction) (o : ℕ) (w : AccessWidth) → lookup d map o w ≡ Refused InvalidWidth ↔ needsAnother d o w ≡ true

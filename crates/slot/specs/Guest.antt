@@ -1,7 +1,7 @@
 -- What the guest reads of an SPI after a write, in the words of Arm's manual and of the base. It speaks of banks alone and of no
 -- operation.
 use Prim.Native.Nat.{ℕ, _+_, _-_, _*_, _/_, _%_, _^_, max}
-use mathlib.Core.Bool.{Bool, true, false, _&&_, cond}
+use mathlib.Core.Bool.{Bool, true, false, not, _&&_, cond}
 use lib.Dec.{eqb}
 use Rattle.bank.specs.declared.bank.Flag.{Flag}
 use Rattle.bank.specs.declared.bank.Flag.the-variants.{Enabled, Pending, Active}
@@ -60,6 +60,23 @@ pendsUnder line level (Replace x) = false
 abbrev pub showsThen : (line level fixed : Bool) → (a : Bank) → (v : ℕ) → (b : Bank) → (old : ℕ) → ℕ
 showsThen line level fixed a v b old =
     cond (alike a b) (itselfThen fixed a v old) (cond (eqb v 1 && alike ISPENDR b && pendsUnder line level a) 1 old)
+
+-- what no bank shows: whether the SPI is in flight, its redelivery mark, its line, and its target mask. One write drops the mark, a 1 to
+-- GICD_ICPENDR<n>; and one the target mask, to GICD_IROUTER<n> where the route is not fixed. No write sets either
+abbrev pub dropsMark : Bank → ℕ → Bool
+dropsMark (Set f) v = false
+dropsMark (Clear Enabled) v = false
+dropsMark (Clear Pending) v = eqb v 1
+dropsMark (Clear Active) v = false
+dropsMark (Replace x) v = false
+
+abbrev pub dropsMask : (fixed : Bool) → Bank → Bool
+dropsMask fixed (Set f) = false
+dropsMask fixed (Clear f) = false
+dropsMask fixed (Replace Group) = false
+dropsMask fixed (Replace Priority) = false
+dropsMask fixed (Replace Configuration) = false
+dropsMask fixed (Replace Route) = not fixed
 
 -- the writes that can list: a 1 to GICD_ISENABLER<n>, GICD_ISPENDR<n> or GICD_ICACTIVER<n>, and every write to GICD_IROUTER<n>
 abbrev pub canList : Bank → ℕ → Bool

@@ -6,3 +6,4 @@ pub mod BankRuleLaws
 pub mod Guest
 pub mod GuestRows
 pub mod GuestLaws
+pub mod HiddenLaws

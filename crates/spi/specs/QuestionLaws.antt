@@ -94,8 +94,8 @@ module _ (s : Slot) where
   trigger-shown = ap number (trigger-bit (s .interrupt .trigger))
 
   -- the route is what IROUTER shows; where none is set there is no number, and IROUTER shows 0
-  pub route-shown : numberOrZero (asked Question.Route s) ≡ shown (Replace Field.Route) (s .interrupt)
-  route-shown = route-number (routeIn (s .interrupt))
+  pub route-answered : numberOrZero (asked Question.Route s) ≡ shown (Replace Field.Route) (s .interrupt)
+  route-answered = route-number (routeIn (s .interrupt))
 
   -- the state is 1 for pending and 2 for active
   pub state-shown : asked State s ≡ number (shown (Set Flag.Pending) (s .interrupt) + 2 * shown (Set Flag.Active) (s .interrupt))
@@ -103,9 +103,9 @@ module _ (s : Slot) where
   state-shown = ap number (state-sum (s .interrupt .life .pending) (s .interrupt .life .active))
 
   -- deliverable exactly when enabled and pending
-  pub deliverable-shown : asked Deliverable s ≡ number (shown (Set Flag.Enabled) (s .interrupt) * shown (Set Flag.Pending) (s .interrupt))
+  pub deliverable-answered : asked Deliverable s ≡ number (shown (Set Flag.Enabled) (s .interrupt) * shown (Set Flag.Pending) (s .interrupt))
   unfolding deliverableIn
-  deliverable-shown = ap number (both-bits (s .interrupt .life .enabled) (s .interrupt .life .pending))
+  deliverable-answered = ap number (both-bits (s .interrupt .life .enabled) (s .interrupt .life .pending))
 
 -- ---- what the host did
 

@@ -19,7 +19,7 @@ module _ {A : Type 0} where
   length-tabulate f k zero = refl
   length-tabulate f k (suc n) = ap suc (length-tabulate f (suc k) n)
 
-  getD-tabulate : (f : ℕ → A) (k n i : ℕ) (d : A) → i < n → getD (tabulate f k n) i d ≡ f (k + i)
+  pub getD-tabulate : (f : ℕ → A) (k n i : ℕ) (d : A) → i < n → getD (tabulate f k n) i d ≡ f (k + i)
   getD-tabulate f k zero i d h = absurd (not-suc-le-zero h)
   getD-tabulate f k (suc n) zero d h = rw (add-zero k)
   getD-tabulate f k (suc n) (suc i) d h = getD-tabulate f (suc k) n i d (le-of-suc-le-suc h) ∙ (let e : suc k + i ≡ k + suc i = omega arith in rw e)
