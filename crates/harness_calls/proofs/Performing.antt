@@ -48,7 +48,7 @@ use Rattle.harness_numbers.specs.Numbers.{familyOf, meaningOf, callOf, numbers,
 use Rattle.harness_numbers.specs.Values.{seenQuestion, value-asked}
 use Rattle.harness_calls.specs.declared.run.Ran.{Ran}
 use Rattle.harness_calls.specs.Ran.{after, Performed, RanAs}
-use Rattle.harness_calls.specs.Runs.{read-unlisted}
+use Rattle.harness_calls.specs.CodeRuns.{read-unlisted}
 
 -- ---- the makers of SPI identifiers, and the table
 

@@ -1,3 +1,3 @@
 pub mod Ran
 pub mod RanLaws
-pub mod Runs
+pub mod CodeRuns
