@@ -3,12 +3,12 @@ ghost use mathlib.Core.Path.{_≡_};
 ghost use Rattle.attributes.specs.Affinity.{affinity, fromMpidr, mpidrOf};
 ghost use Rattle.attributes.specs.States.{pendingOf, activeOf, stateOf, levelOf};
 
-// A core's address in four levels of one byte.
+// A core's address in four levels of one byte, in the order in which an image has them.
 pub struct GicAffinity {
-    aff3: u8,
-    aff2: u8,
-    aff1: u8,
     aff0: u8,
+    aff1: u8,
+    aff2: u8,
+    aff3: u8,
 }
 
 impl GicAffinity {

@@ -1,15 +1,15 @@
 -- The loop that looks for the first INTID beyond the table over which a write is refused.
 use Prim.Native.Nat.{ℕ, suc, _+_, _-_, _/_, _%_, _^_, _<_}
 use mathlib.Core.Path.{_≡_, refl, sym, ap, _∙_}
-use mathlib.Core.Bool.{Bool, true, false, _&&_}
+use mathlib.Core.Bool.{Bool, true, false, not, _&&_, _||_, and-false}
 use mathlib.Core.List.{[], _∷_}
 use native.Mathlib.Numerals.{add-one}
 use native.Mathlib.Omega.{arith}
-use borrow.Author.Tests.{ltb-true}
+use borrow.Author.Tests.{ltb-true, leb-true, lt-leb}
 use lib.Dec.{leb}
 use Rattle.theory.specs.Bools.{both}
 use Rattle.theory.specs.Lists.{passing}
-use Rattle.theory.specs.ListLaws.{passing-more, passing-split, passing-same, passing-never}
+use Rattle.theory.specs.ListLaws.{passing-more, passing-split, passing-same, passing-agree, passing-never}
 use Rattle.bank.specs.declared.bank.Field.{Field}
 use Rattle.bank.specs.declared.bank.Field.the-variants.{Group, Priority, Configuration}
 use Rattle.bank.specs.declared.bank.Bank.the-variants.{Set, Clear, Replace}
@@ -54,3 +54,15 @@ reads-as b e n lo m h = ap firstOf (passing-same (refusedOver e n b 0 lo) (λ i.
 
 pub reads-free : (b : Bank) (e : Bool) (n lo m : ℕ) → readRefuses b ≡ false → [] ≡ firstOf (passing (λ i. readRefuses b && beyondTable e n i) lo m)
 reads-free b e n lo m h = sym (ap firstOf (passing-never (λ i. readRefuses b && beyondTable e n i) lo m (λ i. rw h)))
+
+-- nothing is refused with all guest-owned, or over INTIDs of the table
+pub none-refused : (e : Bool) (n : ℕ) (b : Bank) (v lo m : ℕ) → (not e || leb (lo + m) (32 + n)) ≡ true → [] ≡ firstOf (passing (refusedOver e n b v lo) lo m)
+none-refused e n b v lo m h =
+    sym (ap firstOf (passing-agree (refusedOver e n b v lo) (λ i. false) lo m (λ i p q. not-there i q e h) ∙ passing-never (λ i. false) lo m (λ i. refl)))
+  where
+    not-there : (i : ℕ) → i < lo + m → (e : Bool) → (not e || leb (lo + m) (32 + n)) ≡ true → refusedOver e n b v lo i ≡ false
+    not-there i q true k =
+        let l = leb-true (lo + m) (32 + n) k in
+        let under : leb (32 + n) i ≡ false = lt-leb (32 + n) i (omega arith) in
+        rw under (and-false (writeRefuses b (field b v lo i)))
+    not-there i q false k = and-false (writeRefuses b (field b v lo i))

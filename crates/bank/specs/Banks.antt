@@ -9,6 +9,7 @@ use Prim.Native.Nat.{ℕ, zero, suc, _-_, _*_, _+_, _/_, _%_, _^_}
 use mathlib.Core.Bool.{Bool, true, false, not, _&&_, cond}
 use mathlib.Core.List.{List, [], _∷_}
 use mir.Val.{boolByte}
+use lib.Count.{trailingZeros}
 use lib.Dec.{leb, eqb}
 use Rattle.place.specs.Table.{beyondTable}
 use Rattle.attributes.specs.Affinity.{mpidrOf}
@@ -123,6 +124,12 @@ writeRefuses b v = not (ignoresBeyond b) && acts b v
 -- the field for INTID i in a value whose lowest field is INTID lo's
 abbrev pub field : Bank → ℕ → ℕ → ℕ → ℕ
 field b v lo i = v / (2 ^ bitsOf b) ^ (i - lo) % 2 ^ bitsOf b
+
+-- how many of a value's lowest fields are passed over, since they do not act: of flags, the zeros below the lowest 1
+abbrev pub idleFields : Bank → ℕ → ℕ
+idleFields (Set f) v = trailingZeros 64 v
+idleFields (Clear f) v = trailingZeros 64 v
+idleFields (Replace x) v = cond (ruleOf x .«takes_writes») 0 64
 
 -- an INTID over which a write of the value v is refused
 abbrev pub refusedOver : Bool → ℕ → Bank → ℕ → ℕ → ℕ → Bool

@@ -5,11 +5,11 @@ use interrupt::interrupt::InterruptRecord;
 use interrupt::interrupt::Route;
 use place::place::is_beyond;
 ghost use mathlib.Core.Path.{_≡_};
-ghost use mathlib.Core.Bool.{_&&_};
+ghost use mathlib.Core.Bool.{cond, _&&_};
 ghost use Prim.Native.Nat.{_+_, _-_, _*_, _/_, _%_, _^_, _<_};
 ghost use Rattle.theory.specs.Lists.{passing};
 ghost use Rattle.place.specs.Table.{beyondTable};
-ghost use Rattle.bank.specs.Banks.{rule, ruleOf, bitsOf, routeBits, flagIn, fieldIn, shown, acts, triggerIn, edgeField, setLists, clearLists, lists, readRefuses, ignoresBeyond, writeRefuses, refusedOver, toldBeyond, listsUnless, firstOf};
+ghost use Rattle.bank.specs.Banks.{rule, ruleOf, bitsOf, idleFields, routeBits, flagIn, fieldIn, shown, acts, triggerIn, edgeField, setLists, clearLists, lists, readRefuses, ignoresBeyond, writeRefuses, refusedOver, toldBeyond, listsUnless, firstOf};
 
 // A flag of an interrupt. Two banks show it: a write to the one sets it, to the other clears it.
 pub enum Flag {
@@ -55,8 +55,8 @@ pub enum Beyond {
     At(u32),
 }
 
-// The lowest of the m INTIDs from lo on over which a write of the value is refused.
-pub fn write_beyond(explicit: bool, n: u32, bank: Bank, value: u64, lo: u32, m: u32) -> Beyond
+// The lowest of the m INTIDs from lo on over which a write of the value is refused, field by field.
+fn first_beyond(explicit: bool, n: u32, bank: Bank, value: u64, lo: u32, m: u32) -> Beyond
     ensures { λ r. ⌜ toldBeyond r ≡ firstOf (passing (refusedOver explicit n bank value lo) lo m) ⌝ }
 {
     let mut v = value;
@@ -70,6 +70,17 @@ pub fn write_beyond(explicit: bool, n: u32, bank: Bank, value: u64, lo: u32, m: 
         j += 1;
     }
     Beyond::Nothing
+}
+
+// The lowest of the m INTIDs from lo on over which a write of the value is refused: none where all are in the table.
+pub fn write_beyond(explicit: bool, n: u32, bank: Bank, value: u64, lo: u32, m: u32) -> Beyond
+    ensures { λ r. ⌜ toldBeyond r ≡ firstOf (passing (refusedOver explicit n bank value lo) lo m) ⌝ }
+{
+    if !explicit | (lo as u64 + m as u64 <= 32 + n as u64) {
+        Beyond::Nothing
+    } else {
+        first_beyond(explicit, n, bank, value, lo, m)
+    }
 }
 
 // The lowest of the m INTIDs from lo on over which a read is refused.
@@ -125,13 +136,17 @@ impl Beyond {
 }
 
 impl Flag {
+    // All three are read first: the choice is then between values, and a compiler need not keep the record in memory for it.
     fn of(self, interrupt: InterruptRecord) -> bool
         ensures { λ r. ⌜ r ≡ flagIn self interrupt ⌝ }
     {
+        let enabled = interrupt.enabled();
+        let pending = interrupt.pending();
+        let active = interrupt.active();
         match self {
-            Flag::Enabled => interrupt.enabled(),
-            Flag::Pending => interrupt.pending(),
-            Flag::Active => interrupt.active(),
+            Flag::Enabled => enabled,
+            Flag::Pending => pending,
+            Flag::Active => active,
         }
     }
 
@@ -182,17 +197,14 @@ impl Field {
             Field::Route => route_value(interrupt.route()),
         }
     }
+}
 
-    // 2 to the bits, and 0 for 2^64.
-    fn base(self) -> u64
-        ensures { λ r. ⌜ r ≡ 2 ^ ruleOf self .bits % 2 ^ 64 ⌝ }
+impl Field {
+    // Every field acts, or none does.
+    fn idle(self) -> u32
+        ensures { λ r. ⌜ r ≡ cond (ruleOf self .«takes_writes») 0 64 ⌝ }
     {
-        match self {
-            Field::Group => 2,
-            Field::Priority => 256,
-            Field::Configuration => 4,
-            Field::Route => 0,
-        }
+        if self.rule().takes_writes { 0 } else { 64 }
     }
 }
 
@@ -289,55 +301,54 @@ impl Bank {
         !self.ignores_beyond() & self.acts(field)
     }
 
-    // The base in which the fields are digits: 2 to their bits, and 0 for 2^64.
-    fn base(self) -> u64
-        ensures { λ r. ⌜ r ≡ 2 ^ bitsOf self % 2 ^ 64 ⌝ }
-    {
-        match self {
-            Bank::Set(_) => 2,
-            Bank::Clear(_) => 2,
-            Bank::Replace(field) => field.base(),
-        }
-    }
-
     // The lowest field of a value.
     pub fn low_field(self, value: u64) -> u64
         ensures { λ r. ⌜ r ≡ value % 2 ^ bitsOf self ⌝ }
     {
-        let base = self.base();
-        if base == 0 { value } else { value % base }
+        let bits = self.bits();
+        if bits < 64 {
+            value - (value >> bits << bits)
+        } else {
+            value
+        }
     }
 
     // The fields above the lowest.
     pub fn above(self, value: u64) -> u64
         ensures { λ r. ⌜ r ≡ value / 2 ^ bitsOf self ⌝ }
     {
-        let base = self.base();
-        if base == 0 { 0 } else { value / base }
+        let bits = self.bits();
+        if bits < 64 { value >> bits } else { 0 }
     }
 
     // The fields from the k-th on, counted from 0.
     pub fn from_field(self, value: u64, k: u32) -> u64
         ensures { λ r. ⌜ r ≡ value / (2 ^ bitsOf self) ^ k ⌝ }
     {
-        let mut v = value;
-        let mut j: u32 = 0;
-        while j < k {
-            v = self.above(v);
-            j += 1;
+        let shift = self.bits() * k as u64;
+        if shift < 64 { value >> shift } else { 0 }
+    }
+
+    // How many of a value's lowest fields do not act: of flags, the zeros below the lowest 1.
+    pub fn idle(self, value: u64) -> u32
+        ensures { λ r. ⌜ r ≡ idleFields self value ⌝ }
+    {
+        match self {
+            Bank::Set(_) => u64::trailing_zeros(value),
+            Bank::Clear(_) => u64::trailing_zeros(value),
+            Bank::Replace(field) => field.idle(),
         }
-        v
     }
 
     // A field put below others. What 64 bits have no room for is dropped.
     pub fn put_below(self, above: u64, field: u64) -> u64
         ensures { λ r. ⌜ r ≡ above % 2 ^ (64 - bitsOf self) * 2 ^ bitsOf self + field % 2 ^ bitsOf self ⌝ }
     {
-        let base = self.base();
-        if base == 0 {
-            field
+        let bits = self.bits();
+        if bits < 64 {
+            (above << bits) + (field - (field >> bits << bits))
         } else {
-            above % (u64::MAX / base + 1) * base + field % base
+            field
         }
     }
 }

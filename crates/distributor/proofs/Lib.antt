@@ -1,6 +1,5 @@
 pub mod Creating
 pub mod Hosting
 pub mod Listing
-pub mod Reading
 pub mod Replying
 pub mod Writing

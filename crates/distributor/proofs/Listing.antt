@@ -2,16 +2,16 @@
 use Prim.Native.Nat.{ℕ, _+_, _-_, _≤_, _<_}
 use mathlib.Core.Path.{_≡_, sym, ap, _∙_}
 use mathlib.Core.Bool.{Bool, true, false, cond}
-use mathlib.Core.List.{List, [], _∷_, _++_, append-nil}
-use native.Mathlib.Numerals.{add-one}
+use mathlib.Core.List.{List, [], _∷_}
 use native.Mathlib.Omega.{arith}
 use lib.ListN.{length, getD, set, length-append}
 use Rattle.theory.specs.Lists.{passing}
-use Rattle.theory.specs.ListLaws.{passing-more, laid-more, length-laid, passing-few, passing-most}
+use Rattle.theory.specs.ListLaws.{laid-more, length-laid, passing-few, passing-most}
 use Rattle.interrupt.specs.Records.{deliverableIn}
 use Rattle.slot.specs.declared.slot.Slot.{Slot}
 use Rattle.slot.specs.NoSlot.{noSlot}
 use Rattle.model.specs.Calls.{deliverableAt}
+use Rattle.model.proofs.Listing.{found-one, found-none}
 use Rattle.distributor.specs.Loops.{LaidOut}
 
 -- a test, and a list that has room for all that pass it below `end`
@@ -19,23 +19,11 @@ module _ (t : ℕ → Bool) (first : ℕ) (old : List ℕ) (end : ℕ) (fits : (
   pub list-size : (i : ℕ) (list : List ℕ) (count : ℕ) → i ≤ end → LaidOut (passing t first (i - first)) old list count → length list ≡ length old
   list-size i list count l h = ap length (h .0) ∙ length-laid (passing t first (i - first)) old (fits i l)
 
-  more : (i : ℕ) → first ≤ i → t i ≡ true → passing t first (i + 1 - first) ≡ passing t first (i - first) ++ (i ∷ [])
-  more i l e =
-      let z : i + 1 - first ≡ i - first + 1 = omega arith in
-      let w : first + (i - first) ≡ i = omega arith in
-      rw (z, add-one (i - first)) (passing-more t first (i - first) ∙ (rw (w, e)))
-
-  same : (i : ℕ) → first ≤ i → t i ≡ false → passing t first (i + 1 - first) ≡ passing t first (i - first)
-  same i l e =
-      let z : i + 1 - first ≡ i - first + 1 = omega arith in
-      let w : first + (i - first) ≡ i = omega arith in
-      rw (z, add-one (i - first)) (passing-more t first (i - first) ∙ (rw (w, e) (append-nil (passing t first (i - first)))))
-
   -- there is room for the next one
   pub list-room : (i : ℕ) (list : List ℕ) (count : ℕ) → first ≤ i → i < end → LaidOut (passing t first (i - first)) old list count → t i ≡ true → count < length list
   list-room i list count l b h e =
       let f = fits (i + 1) (omega arith) in
-      let g : length (passing t first (i + 1 - first)) ≡ length (passing t first (i - first)) + 1 = ap length (more i l e) ∙ length-append (passing t first (i - first)) _ in
+      let g : length (passing t first (i + 1 - first)) ≡ length (passing t first (i - first)) + 1 = ap length (found-one t first i l e) ∙ length-append (passing t first (i - first)) _ in
       let k = list-size i list count (omega arith) h in
       let c = h .1 in
       omega arith
@@ -45,11 +33,11 @@ module _ (t : ℕ → Bool) (first : ℕ) (old : List ℕ) (end : ℕ) (fits : (
   list-more i list count true l b h e =
       let r = list-room i list count l b h (sym e) in
       let k = list-size i list count (omega arith) h in
-      let m = more i l (sym e) in (
+      let m = found-one t first i l (sym e) in (
         rw (m, h .0, h .1) (laid-more (passing t first (i - first)) old i (let c = h .1 in omega arith)),
         rw (m, length-append (passing t first (i - first)) (i ∷ []), h .1),
       )
-  list-more i list count false l b h e = let m = same i l (sym e) in rw m h
+  list-more i list count false l b h e = let m = found-none t first i l (sym e) in rw m h
 
 -- a test that only INTIDs of a table of n pass, and a list of at least n places
 pub table-fits : (t : ℕ → Bool) (first : ℕ) (old : List ℕ) (n end : ℕ) → ((i : ℕ) → t i ≡ true → (32 ≤ i) × (i < 32 + n)) → n ≤ length old

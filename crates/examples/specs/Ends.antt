@@ -2,50 +2,15 @@
 -- switch and the table's SPIs the same: of a whole state, an example computes these alone.
 use Prim.Native.Nat.{ℕ, zero, suc, _+_, _≤_}
 use mathlib.Core.Path.{_≡_, refl, sym, _∙_}
-use mathlib.Core.Bool.{Bool, true, false, _&&_, cond}
 use mathlib.Core.List.{List, [], _∷_, _++_}
 use native.Mathlib.Omega.{arith}
 use lib.ListN.{take, drop, take-append-drop}
 use Rattle.theory.specs.Bools.{refuted}
 use Rattle.theory.specs.Lists.{mapFrom}
 use Rattle.theory.specs.Runs.{run}
-use Rattle.identifiers.specs.Answer.{within}
-use Rattle.place.specs.Table.{inTable}
 use Rattle.place.specs.TableLaws.{in-range}
-use Rattle.controller.specs.declared.controller.ControllerConfig.{ControllerConfig}
-use Rattle.registers.specs.declared.register.Register.the-variants.{Identification, Ctlr, Typer, Iidr, Fields, Reserved}
-use Rattle.registers.specs.declared.register.Access.{Access}
-use Rattle.registers.specs.declared.register.Access.the-variants.{To, Refused}
-use Rattle.decoding.specs.Decoding.{writeAccess}
-use Rattle.slot.specs.declared.slot.Slot.{Slot}
-use Rattle.model.specs.Calls.{Distributor, Call, create, read, write, isSwitchedOn, rollback, change, ask, size, writtenAt, slotAfter, step}
-
--- ---- one slot past the table
-
-unless-both : (a b : Bool) (t s : Slot) → b ≡ false → cond (a && b) t s ≡ s
-unless-both true b t s e = rw e
-unless-both false b t s e = refl
-
-module _ (c : ControllerConfig) (n i : ℕ) (s : Slot) (past : inTable n i ≡ false) where
-  write-past : (a : Access) (v : ℕ) → writtenAt c n a v i s ≡ s
-  write-past (Refused f) v = refl
-  write-past (To (Identification k)) v = refl
-  write-past (To Ctlr) v = refl
-  write-past (To Typer) v = refl
-  write-past (To Iidr) v = refl
-  write-past (To (Fields b lo m)) v = unless-both (within lo (lo + m) i) (inTable n i) _ s past
-  write-past (To Reserved) v = refl
-
-  call-past : (k : Call) → slotAfter c n k i s ≡ s
-  call-past (create d m) = refl
-  call-past (read offset w) = refl
-  call-past (write offset w v places) = write-past (writeAccess places n (c .«distributor_size») offset w) v
-  call-past isSwitchedOn = refl
-  call-past (rollback on) = refl
-  call-past (change h raw) = rw past
-  call-past (ask q raw) = refl
-
--- ---- a run
+use Rattle.model.specs.Calls.{Distributor, Call, size, slotAfter, step}
+use Rattle.model.specs.SlotLaws.{call-past}
 
 module _ {A : Type 0} where
   drop-mapFrom : (f : ℕ → A → A) (k n : ℕ) (l : List A) → ((p : ℕ) (x : A) → k + n ≤ p → f p x ≡ x) → drop n (mapFrom f k l) ≡ drop n l

@@ -72,3 +72,26 @@ routeIn r = cond (r .routed) (Route.To (r .route)) Route.Unset
 
 unfoldable pub maskIn : InterruptRecord → TargetMask
 maskIn r = cond (r .masked) (TargetMask.Cores (r .«cpu_target_mask»)) TargetMask.Unset
+
+-- ---- a record made from its parts
+
+-- whether a route is present, and its affinity, which is 0 where it is absent; a target mask likewise
+abbrev pub routeSet : Route → Bool
+routeSet (Route.To a) = true
+routeSet Route.Unset = false
+
+abbrev pub routeHeld : Route → GicAffinity
+routeHeld (Route.To a) = a
+routeHeld Route.Unset = affinity 0 0 0 0
+
+abbrev pub maskSet : TargetMask → Bool
+maskSet (TargetMask.Cores m) = true
+maskSet TargetMask.Unset = false
+
+abbrev pub maskHeld : TargetMask → ℕ
+maskHeld (TargetMask.Cores m) = m
+maskHeld TargetMask.Unset = 0
+
+-- a record that was kept elsewhere
+unfoldable pub restored : IntId → Life → Priority → TriggerMode → Route → TargetMask → InterruptRecord
+restored i l p t route mask = record { intid = i; life = l; priority = p; trigger = t; routed = routeSet route; route = routeHeld route; masked = maskSet mask; «cpu_target_mask» = maskHeld mask }

@@ -11,7 +11,7 @@ ghost use mathlib.Core.Path.{_≡_};
 ghost use mathlib.Core.Bool.{false};
 ghost use Rattle.attributes.specs.States.{pendingOf, activeOf};
 ghost use Rattle.life.specs.Life.{enabledTo, pendingTo, activeTo, stateTo, hasDelivery, cleared, taken, cancelled, deactivated, completed};
-ghost use Rattle.interrupt.specs.Records.{fresh, withLife, isLevel, stateIn, synchronizedWith, priorityTo, triggerTo, routeIn, routeTo, unrouted, maskIn, maskTo, lineTo, linePulsed, deliverableIn};
+ghost use Rattle.interrupt.specs.Records.{fresh, restored, routeSet, routeHeld, maskSet, maskHeld, withLife, isLevel, stateIn, synchronizedWith, priorityTo, triggerTo, routeIn, routeTo, unrouted, maskIn, maskTo, lineTo, linePulsed, deliverableIn};
 
 pub struct InterruptRecord {
     intid: IntId,
@@ -38,6 +38,46 @@ pub enum TargetMask {
     Unset,
 }
 
+impl Route {
+    fn is_set(self) -> bool
+        ensures { λ r. ⌜ r ≡ routeSet self ⌝ }
+    {
+        match self {
+            Route::To(_) => true,
+            Route::Unset => false,
+        }
+    }
+
+    fn affinity(self) -> GicAffinity
+        ensures { λ r. ⌜ r ≡ routeHeld self ⌝ }
+    {
+        match self {
+            Route::To(affinity) => affinity,
+            Route::Unset => GicAffinity::new(0, 0, 0, 0),
+        }
+    }
+}
+
+impl TargetMask {
+    fn is_set(self) -> bool
+        ensures { λ r. ⌜ r ≡ maskSet self ⌝ }
+    {
+        match self {
+            TargetMask::Cores(_) => true,
+            TargetMask::Unset => false,
+        }
+    }
+
+    fn cores(self) -> u8
+        ensures { λ r. ⌜ r ≡ maskHeld self ⌝ }
+    {
+        match self {
+            TargetMask::Cores(mask) => mask,
+            TargetMask::Unset => 0,
+        }
+    }
+}
+
 // The record after a synchronisation, and the merged state.
 pub struct Synchronized {
     pub interrupt: InterruptRecord,
@@ -58,6 +98,30 @@ impl InterruptRecord {
             route: GicAffinity::new(0, 0, 0, 0),
             masked: false,
             cpu_target_mask: 0,
+        }
+    }
+
+    // A record that was kept elsewhere, part by part.
+    pub fn restored(
+        intid: IntId,
+        life: Life,
+        priority: Priority,
+        trigger: TriggerMode,
+        route: Route,
+        mask: TargetMask,
+    ) -> Self
+        ensures { λ r. ⌜ r ≡ restored intid life priority trigger route mask ⌝ }
+    {
+        let affinity = route.affinity();
+        InterruptRecord {
+            intid: intid,
+            life: life,
+            priority: priority,
+            trigger: trigger,
+            routed: route.is_set(),
+            route: affinity,
+            masked: mask.is_set(),
+            cpu_target_mask: mask.cores(),
         }
     }
 

@@ -2,6 +2,7 @@ pub mod Calls
 pub mod Reads
 pub mod Replies
 pub mod RefusedWhen
+pub mod SlotLaws
 pub mod Typed
 pub mod ReadLaws
 pub mod WriteLaws

@@ -19,8 +19,7 @@ use Rattle.registers.specs.declared.register.Direction.the-variants.{Reading}
 use Rattle.decoding.specs.Decoding.{decode, writeAccess}
 use Rattle.slot.specs.declared.slot.Slot.{Slot}
 use Rattle.ownership.specs.Owned.{owned}
-use Rattle.slot.specs.declared.effect.FieldEffect.{FieldEffect}
-use Rattle.slot.specs.Effects.{effectOf, untouched}
+use Rattle.slot.specs.Effects.{FieldEffect, effectOf, untouched}
 use Rattle.slot.specs.Slots.{showing, effected}
 use Rattle.slot.specs.NoSlot.{noSlot}
 use Rattle.slot.specs.BankRule.{slotOf, covers, shownAt, bankSlot, readBeyond}

@@ -37,9 +37,9 @@ pub record Ordered (d : Distributor) : Type 0 where
 -- ---- the four facts, of the states with the settings and the count of one creation
 
 module _ (c : ControllerConfig) (n : ℕ) where
-  record Settled (d : Distributor) : Type 0 where
-    config : d .config ≡ c
-    count : d .count ≡ n
+  pub record Settled (d : Distributor) : Type 0 where
+    pub config : d .config ≡ c
+    pub count : d .count ≡ n
 
   settled : (d : Distributor) → Settled d → d ≡ stateWith c n (d .switch) (d .slots)
   settled d ok = let p = ok .config in let q = ok .count in λ j. record { config = p j; switch = d .switch; count = q j; slots = d .slots }
@@ -47,7 +47,7 @@ module _ (c : ControllerConfig) (n : ℕ) where
   contents-same : (m : Name) (d e : Distributor) → Settled d → Settled e → contents m d ≡ contents m e → contents m (stateWith c n (d .switch) (d .slots)) ≡ contents m (stateWith c n (e .switch) (e .slots))
   contents-same m d e okd oke h = sym (ap (contents m) (settled d okd)) ∙ h ∙ ap (contents m) (settled e oke)
 
-  footprint : Footprint (names c (tableSize n)) step reply contents Settled
+  pub footprint : Footprint (names c (tableSize n)) step reply contents Settled
   unfolding step
   footprint =
       record {

@@ -20,8 +20,7 @@ use Rattle.registers.specs.declared.register.Access.{Access}
 use Rattle.registers.specs.declared.register.Access.the-variants.{To, Refused}
 use Rattle.decoding.specs.Decoding.{writeAccess}
 use Rattle.ownership.specs.Owned.{owned}
-use Rattle.slot.specs.declared.effect.FieldEffect.{FieldEffect}
-use Rattle.slot.specs.Effects.{effectOf, untouched}
+use Rattle.slot.specs.Effects.{FieldEffect, effectOf, untouched}
 use Rattle.slot.specs.Slots.{effected}
 use Rattle.slot.specs.NoSlot.{noSlot}
 use Rattle.slot.specs.BankRule.{slotOf, covers}

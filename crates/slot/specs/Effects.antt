@@ -12,9 +12,11 @@ use Rattle.bank.specs.declared.bank.Bank.the-variants.{Set, Clear, Replace}
 use Rattle.bank.specs.Banks.{triggerIn, acts, lists}
 use Rattle.ownership.specs.declared.ownership.Ownership.{Ownership}
 use Rattle.ownership.specs.Owned.{owned}
-use Rattle.slot.specs.declared.effect.Effect.{Effect}
-use Rattle.slot.specs.declared.effect.Effect.the-variants.{Leave, Apply}
-use Rattle.slot.specs.declared.effect.FieldEffect.{FieldEffect}
+
+-- what is done to an SPI's record
+pub data Effect : Type 0 where
+  leave : Effect
+  apply : Operation → Effect
 
 -- ISENABLER, ISPENDR and ISACTIVER set a flag; ICENABLER, ICPENDR and ICACTIVER clear it
 abbrev pub flagTo : Flag → Bool → Operation
@@ -25,20 +27,24 @@ flagTo Active false = Complete
 
 -- what a field that acts does to an owned SPI. After the flags come IGROUPR, IPRIORITYR, ICFGR and IROUTER; a fixed route stays
 abbrev pub effectOf : Bool → Bank → ℕ → Effect
-effectOf fixed (Set f) v = Apply (flagTo f true)
-effectOf fixed (Clear f) v = Apply (flagTo f false)
-effectOf fixed (Replace Group) v = Leave
-effectOf fixed (Replace Priority) v = Apply (SetPriority (record { 0 = v % 256 }))
-effectOf fixed (Replace Configuration) v = Apply (SetTrigger (triggerIn v))
-effectOf fixed (Replace Route) v = cond fixed Leave (Apply (SetRoute (fromMpidr v)))
+effectOf fixed (Set f) v = apply (flagTo f true)
+effectOf fixed (Clear f) v = apply (flagTo f false)
+effectOf fixed (Replace Group) v = leave
+effectOf fixed (Replace Priority) v = apply (SetPriority (record { 0 = v % 256 }))
+effectOf fixed (Replace Configuration) v = apply (SetTrigger (triggerIn v))
+effectOf fixed (Replace Route) v = cond fixed leave (apply (SetRoute (fromMpidr v)))
 
 -- a field touches an owned SPI, if it acts
 abbrev pub touches : Bool → Ownership → Bank → ℕ → Bool
 touches explicit o b v = acts b v && owned explicit o
 
 -- what a field does to an SPI, and whether the SPI is listed if it is deliverable then
+pub record FieldEffect : Type 0 where
+  pub effect : Effect
+  pub lists : Bool
+
 abbrev pub untouched : FieldEffect
-untouched = record { effect = Leave; lists = false }
+untouched = record { effect = leave; lists = false }
 
 abbrev pub written : Bool → Ownership → Bank → ℕ → FieldEffect
 written explicit o b v = cond (touches explicit o b v) (record { effect = effectOf (o .«fixed_route») b v; lists = lists b }) untouched

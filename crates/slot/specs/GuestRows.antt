@@ -27,9 +27,7 @@ use Rattle.bank.specs.declared.bank.Bank.{Bank}
 use Rattle.bank.specs.declared.bank.Bank.the-variants.{Set, Clear, Replace}
 use Rattle.bank.specs.Banks.{bit, edgeField, bitsOf, shown, acts, lists}
 use Rattle.bank.specs.RowLaws.{ISPENDR, upper-bit, route-shown}
-use Rattle.slot.specs.declared.effect.Effect.{Effect}
-use Rattle.slot.specs.declared.effect.Effect.the-variants.{Leave}
-use Rattle.slot.specs.Effects.{flagTo, effectOf, untouched}
+use Rattle.slot.specs.Effects.{Effect, leave, flagTo, effectOf, untouched}
 use Rattle.slot.specs.Slots.{afterEffect}
 use Rattle.slot.specs.Guest.{flagNumber, fieldNumber, alike, itselfThen, showsThen, canList}
 
@@ -152,7 +150,7 @@ route-set a (Replace Route) r = shown-after (Replace Route) (SetRoute a) r ∙ r
 module _ (v : ℕ) (b : Bank) (r : InterruptRecord) where
   -- what bank b shows after a write to the bank of x
   abbrev written-shows : Bool → Field → ℕ
-  written-shows fixed x = shown b (afterEffect (cond (acts (Replace x) v) (effectOf fixed (Replace x) v) Leave) r)
+  written-shows fixed x = shown b (afterEffect (cond (acts (Replace x) v) (effectOf fixed (Replace x) v) leave) r)
 
   -- the written bank shows w, and no write to a field makes pending
   own-row : (fixed : Bool) (x : Field) {w : ℕ} → written-shows fixed x ≡ cond (alike (Replace x) b) w (shown b r) → w ≡ itselfThen fixed (Replace x) v (shown b r)
@@ -168,7 +166,7 @@ module _ (v : ℕ) (b : Bank) (r : InterruptRecord) where
 
 -- a written field of an owned SPI, as a bank shows it
 pub record-row : (fixed : Bool) (a : Bank) (v : ℕ) (b : Bank) (r : InterruptRecord) → v < 2 ^ bitsOf a
-    → shown b (afterEffect (cond (acts a v) (effectOf fixed a v) Leave) r) ≡ showsThen (line (r .life)) (isLevel r) fixed a v b (shown b r)
+    → shown b (afterEffect (cond (acts a v) (effectOf fixed a v) leave) r) ≡ showsThen (line (r .life)) (isLevel r) fixed a v b (shown b r)
 record-row fixed (Set f) zero b r h = none-row (alike (Set f) b) (omega arith)
 record-row fixed (Set f) (suc zero) (Set g) r h = flag-row true f g fixed r
 record-row fixed (Set f) (suc zero) (Clear g) r h = flag-row true f g fixed r
@@ -182,7 +180,7 @@ record-row fixed (Clear f) (suc (suc v)) b r h = absurd (omega arith)
 record-row fixed (Replace x) v b r h = field-row v b r fixed x h
 
 -- what a field does is its row if it acts, and nothing otherwise
-pub effect-chosen : (c : Bool) (e : Effect) (l : Bool) → (cond c (record { effect = e; lists = l }) untouched) .effect ≡ cond c e Leave
+pub effect-chosen : (c : Bool) (e : Effect) (l : Bool) → (cond c (record { effect = e; lists = l }) untouched) .effect ≡ cond c e leave
 effect-chosen true e l = refl
 effect-chosen false e l = refl
 

@@ -18,8 +18,7 @@ use Rattle.bank.specs.declared.bank.Bank.the-variants.{Set, Clear, Replace}
 use Rattle.bank.specs.Banks.{triggerIn, acts, lists}
 use Rattle.ownership.specs.Owned.{owned}
 use Rattle.slot.specs.declared.slot.Slot.{Slot}
-use Rattle.slot.specs.declared.effect.FieldEffect.{FieldEffect}
-use Rattle.slot.specs.Effects.{effectOf, untouched}
+use Rattle.slot.specs.Effects.{FieldEffect, effectOf, untouched}
 use Rattle.slot.specs.Slots.{afterEffect, effected, fieldWritten}
 use Rattle.slot.specs.Guest.{dropsMark, dropsMask}
 

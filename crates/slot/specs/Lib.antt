@@ -7,3 +7,4 @@ pub mod Guest
 pub mod GuestRows
 pub mod GuestLaws
 pub mod HiddenLaws
+pub mod SettingsLaws

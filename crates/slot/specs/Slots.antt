@@ -10,9 +10,7 @@ use Rattle.operation.specs.Operation.{applied}
 use Rattle.bank.specs.declared.bank.Bank.{Bank}
 use Rattle.bank.specs.Banks.{shown}
 use Rattle.ownership.specs.Owned.{unclaimed, visible}
-use Rattle.slot.specs.declared.effect.Effect.{Effect}
-use Rattle.slot.specs.declared.effect.Effect.the-variants.{Leave, Apply}
-use Rattle.slot.specs.Effects.{written}
+use Rattle.slot.specs.Effects.{Effect, leave, apply, written}
 use Rattle.changes.specs.declared.change.Change.{Change}
 use Rattle.changes.specs.Changes.{happens, ownershipAfter, recordAfter}
 use Rattle.slot.specs.declared.slot.Slot.{Slot}
@@ -28,8 +26,8 @@ abbrev pub showing : Bool → Bank → Slot → ℕ
 showing explicit b s = visible explicit (s .ownership) (shown b (s .interrupt))
 
 abbrev pub afterEffect : Effect → InterruptRecord → InterruptRecord
-afterEffect Leave r = r
-afterEffect (Apply o) r = applied o r
+afterEffect leave r = r
+afterEffect (apply o) r = applied o r
 
 abbrev pub effected : Effect → Slot → Slot
 effected e s = record { interrupt = afterEffect e (s .interrupt); ownership = s .ownership }

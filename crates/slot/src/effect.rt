@@ -1,77 +1,53 @@
-// What a written field does to an SPI. No record is in here.
+// What a written field does to the record of an SPI.
 use attributes::attributes::GicAffinity;
 use attributes::attributes::Priority;
 use bank::bank::Bank;
 use bank::bank::Field;
 use bank::bank::Flag;
 use bank::bank::trigger_in;
-use operation::operation::Operation;
-use ownership::ownership::Ownership;
+use interrupt::interrupt::InterruptRecord;
 ghost use mathlib.Core.Path.{_≡_};
-ghost use Rattle.slot.specs.Effects.{flagTo, effectOf, written};
-
-// What is done to an SPI's record.
-pub enum Effect {
-    Leave,
-    Apply(Operation),
-}
-
-// What a written field does to an SPI, and whether the SPI is listed if it is deliverable then.
-pub struct FieldEffect {
-    pub effect: Effect,
-    pub lists: bool,
-}
+ghost use Rattle.operation.specs.Operation.{applied};
+ghost use Rattle.slot.specs.Effects.{flagTo, effectOf};
+ghost use Rattle.slot.specs.Slots.{afterEffect};
 
 // ISENABLER, ISPENDR and ISACTIVER set the flag; ICENABLER, ICPENDR and ICACTIVER clear it.
-fn flag_to(flag: Flag, on: bool) -> Operation
-    ensures { λ r. ⌜ r ≡ flagTo flag on ⌝ }
+fn after_flag(interrupt: InterruptRecord, flag: Flag, on: bool) -> InterruptRecord
+    ensures { λ r. ⌜ r ≡ applied (flagTo flag on) interrupt ⌝ }
 {
     match flag {
-        Flag::Enabled => Operation::SetEnabled(on),
-        Flag::Pending => Operation::SetPending(on),
+        Flag::Enabled => interrupt.set_enabled(on),
+        Flag::Pending => interrupt.set_pending(on),
         Flag::Active => if on {
-            Operation::SetActive(true)
+            interrupt.set_active(true)
         } else {
-            Operation::Complete
+            interrupt.complete()
         },
     }
 }
 
-// One row for each bank, as in specs/Effects.antt.
-fn effect_of(fixed_route: bool, bank: Bank, field: u64) -> Effect
-    ensures { λ r. ⌜ r ≡ effectOf «fixed_route» bank field ⌝ }
+// One row for each bank, as in specs/Effects.antt. An operation is called by its name here, and not made a value for `apply`: a record
+// that is loaded from an image then stays in the processor's registers until it is stored again.
+pub fn after_field(
+    interrupt: InterruptRecord,
+    fixed_route: bool,
+    bank: Bank,
+    field: u64,
+) -> InterruptRecord
+    ensures { λ r. ⌜ r ≡ afterEffect (effectOf «fixed_route» bank field) interrupt ⌝ }
 {
     match bank {
-        Bank::Set(flag) => Effect::Apply(flag_to(flag, true)),
-        Bank::Clear(flag) => Effect::Apply(flag_to(flag, false)),
+        Bank::Set(flag) => after_flag(interrupt, flag, true),
+        Bank::Clear(flag) => after_flag(interrupt, flag, false),
         Bank::Replace(kept) => match kept {
-            Field::Group => Effect::Leave,
-            Field::Priority => Effect::Apply(Operation::SetPriority(Priority::new(
-                (field % 256) as u8,
-            ))),
-            Field::Configuration => Effect::Apply(Operation::SetTrigger(trigger_in(field))),
+            Field::Group => interrupt,
+            Field::Priority => interrupt.set_priority(Priority::new((field % 256) as u8)),
+            Field::Configuration => interrupt.set_trigger(trigger_in(field)),
             Field::Route => if fixed_route {
-                Effect::Leave
+                interrupt
             } else {
-                Effect::Apply(Operation::SetRoute(GicAffinity::from_mpidr(field)))
+                interrupt.set_route(GicAffinity::from_mpidr(field))
             },
         },
-    }
-}
-
-// What a written field does to an SPI: nothing unless the field acts and the SPI is owned.
-pub fn written(explicit: bool, ownership: Ownership, bank: Bank, field: u64) -> FieldEffect
-    ensures { λ r. ⌜ r ≡ written explicit ownership bank field ⌝ }
-{
-    if bank.acts(field) & ownership.is_owned(explicit) {
-        FieldEffect {
-            effect: effect_of(ownership.fixed_route, bank, field),
-            lists: bank.lists(),
-        }
-    } else {
-        FieldEffect {
-            effect: Effect::Leave,
-            lists: false,
-        }
     }
 }

@@ -1,21 +1,20 @@
 // One SPI: what a bank shows of it, what a written field does to it, and what the host makes of it. No table is in here.
-use crate::effect::Effect;
-use crate::effect::written;
+use crate::effect::after_field;
 use attributes::attributes::TriggerMode;
 use bank::bank::Bank;
 use changes::change::Change;
 use identifiers::types::IntId;
 use identifiers::types::SpiId;
 use interrupt::interrupt::InterruptRecord;
-use operation::operation::apply;
 use ownership::ownership::Ownership;
 ghost use mathlib.Core.Path.{_≡_};
 ghost use Prim.Native.Nat.{_^_, _<_};
 ghost use Rattle.bank.specs.Banks.{bitsOf};
 ghost use Rattle.interrupt.specs.Records.{deliverableIn};
-ghost use Rattle.slot.specs.Slots.{freshSpi, showing, afterEffect, fieldWritten, fieldListed, changed};
+ghost use Rattle.slot.specs.Slots.{freshSpi, showing, fieldWritten, fieldListed, changed};
 
-// Only the functions below make a slot or change one, and nothing puts a slot into a Distributor from outside.
+// Only the functions below make a slot or change one. Nothing puts one into a Distributor by value from outside; on a lent image the
+// bytes decide, and `image` makes its slots from them.
 pub struct Slot {
     interrupt: InterruptRecord,
     ownership: Ownership,
@@ -25,15 +24,6 @@ pub struct Slot {
 pub struct FieldWritten {
     pub slot: Slot,
     pub listed: bool,
-}
-
-fn after_effect(interrupt: InterruptRecord, effect: Effect) -> InterruptRecord
-    ensures { λ r. ⌜ r ≡ afterEffect effect interrupt ⌝ }
-{
-    match effect {
-        Effect::Leave => interrupt,
-        Effect::Apply(operation) => apply(interrupt, operation),
-    }
 }
 
 impl Slot {
@@ -47,6 +37,16 @@ impl Slot {
                 explicitly_owned: false,
                 fixed_route: false,
             },
+        }
+    }
+
+    // An SPI that was kept elsewhere, part by part.
+    pub fn restored(interrupt: InterruptRecord, ownership: Ownership) -> Self
+        ensures { λ r. ⌜ (r .interrupt ≡ interrupt) × (r .ownership ≡ ownership) ⌝ }
+    {
+        Slot {
+            interrupt: interrupt,
+            ownership: ownership,
         }
     }
 
@@ -76,20 +76,25 @@ impl Slot {
         self.interrupt.deliverable()
     }
 
-    // A field is written to an SPI of the table.
+    // A field is written to an SPI of the table: nothing happens unless the field acts and the SPI is owned.
     pub fn write_field(self, explicit: bool, bank: Bank, field: u64) -> FieldWritten
         ensures { λ r. ⌜ (r .slot ≡ fieldWritten explicit bank field self) × (r .listed ≡ fieldListed explicit bank field self) ⌝ }
     {
         let ownership = self.ownership;
-        let does = written(explicit, ownership, bank, field);
-        let effect = does.effect;
-        let next = after_effect(self.interrupt, effect);
-        FieldWritten {
-            slot: Slot {
-                interrupt: next,
-                ownership: ownership,
-            },
-            listed: does.lists & next.deliverable(),
+        if bank.acts(field) & ownership.is_owned(explicit) {
+            let next = after_field(self.interrupt, ownership.fixed_route, bank, field);
+            FieldWritten {
+                slot: Slot {
+                    interrupt: next,
+                    ownership: ownership,
+                },
+                listed: bank.lists() & next.deliverable(),
+            }
+        } else {
+            FieldWritten {
+                slot: self,
+                listed: false,
+            }
         }
     }
 

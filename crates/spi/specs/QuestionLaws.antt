@@ -23,9 +23,7 @@ use Rattle.bank.specs.declared.bank.Field.{Field}
 use Rattle.bank.specs.declared.bank.Bank.{Bank}
 use Rattle.bank.specs.declared.bank.Bank.the-variants.{Set, Replace}
 use Rattle.bank.specs.Banks.{bit, edgeField, routeBits, shown}
-use Rattle.slot.specs.declared.effect.Effect.{Effect}
-use Rattle.slot.specs.declared.effect.Effect.the-variants.{Leave, Apply}
-use Rattle.slot.specs.Effects.{written}
+use Rattle.slot.specs.Effects.{Effect, leave, apply, written}
 use Rattle.changes.specs.declared.change.Change.{Change}
 use Rattle.changes.specs.declared.change.Change.the-variants.{Claim, ClaimTo, Release, SetCpuTargetMask, SynchronizeInflight, Operate}
 use Rattle.slot.specs.declared.slot.Slot.{Slot}
@@ -162,7 +160,7 @@ module _ (r : InterruptRecord) (claim mark : Bool) where
 
 -- ---- the INTID stays
 
-record-intid : (h : Change) (r : InterruptRecord) → recordAfter h r .intid ≡ r .intid
+pub record-intid : (h : Change) (r : InterruptRecord) → recordAfter h r .intid ≡ r .intid
 record-intid Claim r = refl
 record-intid (ClaimTo a) r = intid-kept (SetRoute a) r
 record-intid Release r = intid-kept (SetTrigger Level) (applied ClearRoute r) ∙ intid-kept ClearRoute r
@@ -170,9 +168,9 @@ record-intid (SetCpuTargetMask m) r = mask-intid m r
 record-intid (SynchronizeInflight t) r = synchronized-intid t r
 record-intid (Operate o) r = intid-kept o r
 
-effect-intid : (x : Effect) (r : InterruptRecord) → afterEffect x r .intid ≡ r .intid
-effect-intid Leave r = refl
-effect-intid (Apply o) r = intid-kept o r
+pub effect-intid : (x : Effect) (r : InterruptRecord) → afterEffect x r .intid ≡ r .intid
+effect-intid leave r = refl
+effect-intid (apply o) r = intid-kept o r
 
 -- no change of the host and no field that a guest writes makes it another interrupt
 pub intid-stays : (s : Slot) (h : Change) (explicit : Bool) (b : Bank) (v : ℕ) → (asked Intid (changed h s) ≡ asked Intid s) × (asked Intid (fieldWritten explicit b v s) ≡ asked Intid s)

@@ -9,7 +9,7 @@ use Rattle.controller.specs.Modes.{explicit}
 use Rattle.bank.specs.Banks.{bitsOf, packed}
 use Rattle.bank.proofs.Digits.{below-same}
 use Rattle.slot.specs.BankRule.{shownAt}
-use Rattle.distributor.proofs.Reading.{room, one-less, packed-more, packed-room, shows, all-read}
+use Rattle.model.proofs.Reading.{room, one-less, packed-more, packed-room, shows, all-read}
 use Rattle.distributor.proofs.distributor.read_fields.Statement.{statement}
 use Rattle.distributor.proofs.distributor.read_fields.Tie as tie
 

@@ -1,58 +1,41 @@
 use native.Mathlib.Omega.{arith}
-use Rattle.bank.proofs.Digits.{none-below, room-fits, below-real, below-fits}
+use Rattle.bank.proofs.Digits.{whole-below, shifted-up, shifted-back, below-fits}
 use borrow.Author.Needs.{needs}
 use Rattle.bank.proofs.bank.Bank.put_below.Statement.{statement}
 use Rattle.bank.proofs.bank.Bank.put_below.Tie as tie
 
-base-requires : tie.Need-base-requires
-base-requires c κs = search needs
+bits-requires : tie.Need-bits-requires
+bits-requires c κs = search needs
 
-div-result : tie.Need-div-result
-div-result c = search needs
+shl-result : tie.Need-shl-result
+shl-result c = search needs
+
+shr-result : tie.Need-shr-result
+shr-result c = search needs
+
+shl-result-2 : tie.Need-shl-result-2
+shl-result-2 c = search needs
+
+sub-result : tie.Need-sub-result
+sub-result c = let b = c .before in rw (b .bits .ensures) (shifted-back (b .before .args .self) (b .before .args .field) (omega arith) .0)
 
 add-result : tie.Need-add-result
-add-result c = let b = c .before in omega (arith, room-fits (b .before .args .self) (b .base .ensures) (λ z. omega arith))
-
-rem-result : tie.Need-rem-result
-rem-result c = search needs
-
-mul-result : tie.Need-mul-result
-mul-result c =
+add-result c =
     let b = c .before in
     let a = b .before .args in
-    omega (arith, below-real (a .self) (b .base .ensures) (λ z. omega arith) (a .above) (a .field), below-fits (a .self) (a .above) (a .field))
-
-rem-result-2 : tie.Need-rem-result-2
-rem-result-2 c = search needs
-
-add-result-2 : tie.Need-add-result-2
-add-result-2 c =
-    let b = c .before in
-    let a = b .before .args in
-    omega (arith, below-real (a .self) (b .base .ensures) (λ z. omega arith) (a .above) (a .field), below-fits (a .self) (a .above) (a .field))
+    rw (b .bits .ensures, shifted-up (a .self) (a .above), shifted-back (a .self) (a .field) (omega arith) .1) (record { fits = below-fits (a .self) (a .above) (a .field) })
 
 returns : tie.Need-returns
 returns c =
     let b = c .before in
     let a = b .before .args in
-    none-below (a .self) (b .base .ensures) (a .above) (a .field) (omega arith) (omega arith)
+    rw (b .bits .ensures, shifted-up (a .self) (a .above), shifted-back (a .self) (a .field) (omega arith) .1)
 
 returns-2 : tie.Need-returns-2
 returns-2 c =
     let b = c .before in
     let a = b .before .args in
-    below-real (a .self) (b .base .ensures) (λ z. omega arith) (a .above) (a .field)
+    whole-below (a .self) (omega (arith, b .bits .ensures)) (a .above) (a .field) (omega arith)
 
 pub put-below-spec : {M : Type 1} → statement M
-put-below-spec =
-    tie.close
-    (tie.spec
-    base-requires
-    div-result
-    add-result
-    rem-result
-    mul-result
-    rem-result-2
-    add-result-2
-    returns
-    returns-2)
+put-below-spec = tie.close (tie.spec bits-requires shl-result shr-result shl-result-2 sub-result add-result returns returns-2)

@@ -8,7 +8,7 @@ use Rattle.controller.specs.Modes.{explicit}
 use Rattle.bank.specs.Banks.{firstOf, toldBeyond}
 use Rattle.slot.specs.BankRule.{bankValue, readBeyond}
 use Rattle.model.specs.Calls.{plain}
-use Rattle.distributor.proofs.Replying.{unless-beyond}
+use Rattle.model.proofs.Beyond.{unless-beyond}
 use borrow.Author.Needs.{needs}
 use Rattle.distributor.proofs.distributor.DistributorState.read_bank.Statement.{statement}
 use Rattle.distributor.proofs.distributor.DistributorState.read_bank.Tie as tie

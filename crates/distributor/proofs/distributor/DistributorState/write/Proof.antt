@@ -7,7 +7,8 @@ use Rattle.place.specs.Table.{tableSize}
 use Rattle.registers.specs.declared.register.Direction.the-variants.{Writing}
 use Rattle.decoding.specs.Decoding.{writeAccess}
 use Rattle.decoding.proofs.Bounding.{decode-bounded}
-use Rattle.distributor.proofs.Replying.{granted, written-so, refused-writes}
+use Rattle.model.proofs.Granting.{granted}
+use Rattle.distributor.proofs.Replying.{written-so, refused-writes}
 use borrow.Author.Needs.{needs}
 use Rattle.distributor.proofs.distributor.DistributorState.write.Statement.{statement}
 use Rattle.distributor.proofs.distributor.DistributorState.write.Tie as tie

@@ -1,0 +1,5 @@
+pub mod Beyond
+pub mod Covering
+pub mod Granting
+pub mod Listing
+pub mod Reading
