@@ -1,0 +1,10 @@
+pub mod Creating
+pub mod Gathering
+pub mod Guesting
+pub mod Hosting
+pub mod Listing
+pub mod Naming
+pub mod Rewriting
+pub mod Storing
+pub mod Testing
+pub mod Writing

@@ -1,0 +1,3 @@
+pub mod Sweeps
+pub mod Guest
+pub mod Host

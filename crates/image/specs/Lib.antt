@@ -1,0 +1,9 @@
+pub mod Bytes
+pub mod Kept
+pub mod Header
+pub mod Meaning
+pub mod ByteLaws
+pub mod BitLaws
+pub mod KeptLaws
+pub mod HeaderLaws
+pub mod MeaningLaws

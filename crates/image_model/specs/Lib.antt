@@ -1,0 +1,9 @@
+pub mod Told
+pub mod Face
+pub mod GoodLaws
+pub mod Create
+pub mod FaceLaws
+pub mod FaceRefusals
+pub mod CreateLaws
+pub mod FaceOrder
+pub mod FaceIsolation
