@@ -17,7 +17,7 @@ use harness_numbers::answer::Answer;
 use harness_numbers::call::Call;
 use harness_numbers::number::bit;
 use harness_numbers::number::wide_word;
-use harness_numbers::packed;
+use image::kept::word_of;
 use place::place::SPIS;
 use slot::slot::Slot;
 
@@ -108,7 +108,7 @@ fn put_slots(table: [Slot; SPIS], n: u64, seen: &mut [u8], at: usize) -> usize {
     let mut i = 0;
     while i < SPIS && (i as u64) < n {
         let s = table[i];
-        next = put_eight(packed::pack(s), seen, next);
+        next = put_eight(word_of(s), seen, next);
         i += 1;
     }
     next

@@ -8,9 +8,6 @@ const ANY: u64 = 0xffff_ffff_ffff_ffff;
 
 const WORD: u64 = 0xffff_ffff;
 
-// The most places that a write is lent: 8 more than a table can have.
-pub const PLACES: usize = 996;
-
 // Whether there is such a call, each argument is one that it can have, and it lists no more candidates than it can. `made` says
 // whether there is a Distributor, of `spis` SPIs; only the identifiers and a creation do without.
 pub fn proper(call: Call, seen: Seen, made: bool, spis: u64) -> bool {

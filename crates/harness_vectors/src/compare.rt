@@ -1,13 +1,13 @@
 // All that is seen of a call, held against its line: the answer, the switch, every place of the lent list and every slot.
-use crate::arguments::PLACES;
 use crate::line;
 use crate::line::CANDIDATES;
 use crate::line::Seen;
 use crate::line::WORDS;
+use harness_face::apart::PLACES;
 use harness_numbers::answer::Answer;
 use harness_numbers::number::bit;
 use harness_numbers::number::wide_word;
-use harness_numbers::packed;
+use image::kept::word_of;
 use place::place::SPIS;
 use slot::slot::Slot;
 
@@ -99,7 +99,7 @@ pub fn slots(table: [Slot; SPIS], slots: &[u64; SPIS]) -> Difference {
     while i < SPIS {
         let slot = table[i];
         let listed = slots[i];
-        let here = packed::pack(slot);
+        let here = word_of(slot);
         if listed != here {
             return difference_at(What::Slot, i, listed, here);
         }

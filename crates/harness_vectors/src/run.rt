@@ -1,7 +1,8 @@
-// A list, read line by line: where the reading stands, and how many calls were compared.
+// A list, read line by line: where the reading stands, and how many calls were compared. The board's list comes first.
 //
 // The slots that the lines list are gathered, so that after each call the whole Distributor can be held against them.
 use crate::arguments;
+use crate::compare;
 use crate::compare::Difference;
 use crate::lexer::BUFFER;
 use crate::lexer::Lexer;
@@ -9,7 +10,13 @@ use crate::line;
 use crate::line::WORDS;
 use crate::report;
 use crate::table;
-use harness_numbers::packed::FRESH;
+use harness_face::apart::PLACES;
+use harness_face::beside;
+use harness_face::beside::Head;
+use harness_face::beside::IMAGE;
+use harness_numbers::answer::Answer;
+use harness_numbers::call::Call;
+use image::kept::FRESH;
 use libc::STDIN_FILENO;
 use place::place::SPIS;
 
@@ -18,30 +25,49 @@ pub struct Run {
     pub reading: bool,
     // A line is whole, and its call is to be run.
     pub called: bool,
+    // The list is the board's, which stands in the buffer.
+    board: bool,
     lexer: Lexer,
     lines: u64,
-    // Whether the list has a Distributor, and of how many SPIs: 0 where it has none.
+    // The last creation, whether the list has a Distributor, and of how many SPIs: 0 where it has none.
+    creation: Call,
     made: bool,
     spis: u64,
     identifiers: u64,
     creations: u64,
     guest: u64,
     host: u64,
+    // How many of them the face has run too.
+    faced: u64,
 }
 
 impl Run {
-    pub fn new() -> Run {
+    // At the beginning of the board's list, of so many bytes.
+    pub fn new(bytes: usize) -> Run {
+        Run::beginning(true, Lexer::new(0, bytes))
+    }
+
+    fn beginning(board: bool, lexer: Lexer) -> Run {
         Run {
             reading: true,
             called: false,
-            lexer: Lexer::new(0, 0),
+            board: board,
+            lexer: lexer,
             lines: 0,
+            creation: Call {
+                op: 0,
+                a: 0,
+                b: 0,
+                c: 0,
+                d: 0,
+            },
             made: false,
             spis: 0,
             identifiers: 0,
             creations: 0,
             guest: 0,
             host: 0,
+            faced: 0,
         }
     }
 
@@ -70,6 +96,9 @@ impl Run {
     }
 
     fn fill(mut self, buffer: &mut [u8; BUFFER]) -> Run {
+        if self.board {
+            return self.ended();
+        }
         let got = libc::read(STDIN_FILENO, buffer);
         if got < 0 {
             report::unread();
@@ -84,16 +113,26 @@ impl Run {
         self
     }
 
-    // The input is at its end.
+    // The list is at its end. The one of the input follows the board's.
     fn ended(self) -> Run {
         let lexer = self.lexer;
         if lexer.within() {
             return self.broken_off();
         }
+        if self.board {
+            report::board(self.lines, self.faced);
+            return Run::beginning(false, Lexer::new(0, 0));
+        }
         if self.lines == 0 {
             report::no_call();
         } else {
-            report::summary(self.identifiers, self.creations, self.guest, self.host);
+            report::summary(
+                self.identifiers,
+                self.creations,
+                self.guest,
+                self.host,
+                self.faced,
+            );
         }
         self.stopped()
     }
@@ -124,6 +163,7 @@ impl Run {
         let call = line::call_of(words);
         let seen = line::seen_of(words);
         if call.op == 0x10 {
+            self.creation = call;
             self.made = seen.kind == 0;
             self.spis = if self.made { call.a } else { 0 };
             *slots = [FRESH; SPIS];
@@ -139,6 +179,9 @@ impl Run {
     }
 
     fn counted(mut self, op: u64) -> Run {
+        if beside::has(op) {
+            self.faced = next(self.faced);
+        }
         match op {
             0x00..=0x08 => self.identifiers = next(self.identifiers),
             0x10 => self.creations = next(self.creations),
@@ -148,14 +191,30 @@ impl Run {
         self
     }
 
-    // The line's call was run. Its answer is held against the line, and then the slots.
-    pub fn compared(self, answer: Difference, slots: Difference) -> Run {
-        let difference = answer.or(slots);
-        if difference.is_nothing() {
-            return self;
+    // The line's call was run. Its answer and list are held against the line, then the table, which was compared before, and then the
+    // face against both.
+    pub fn compared(
+        self,
+        words: &[u64; WORDS],
+        answer: Answer,
+        switch: bool,
+        list: &[u32; PLACES],
+        table: Difference,
+        slots: &[u64; SPIS],
+        image: &mut [u8; IMAGE],
+    ) -> Run {
+        let difference = compare::answer_and_list(words, answer, switch, list).or(table);
+        if !difference.is_nothing() {
+            report::difference(self.board, self.lines, difference);
+            return self.stopped();
         }
-        report::difference(self.lines, difference);
-        self.stopped()
+        let head = Head::new(self.creation, self.made, switch);
+        let face = beside::follow(image, head, line::call_of(words), answer, list, slots);
+        if !face.is_nothing() {
+            report::apart(self.board, self.lines, face);
+            return self.stopped();
+        }
+        self
     }
 }
 

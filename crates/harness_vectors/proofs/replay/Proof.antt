@@ -5,13 +5,10 @@ use Rattle.harness_vectors.proofs.replay.Statement.{statement}
 use Rattle.harness_vectors.proofs.replay.Tie as tie
 
 abbrev Inv-loop : tie.InvT-loop
-Inv-loop buffer₀ words₀ slots₀ run₀ d₀ turns₀ buffer words slots run d turns = Unit {0}
+Inv-loop buffer₀ words₀ slots₀ image₀ run₀ d₀ turns₀ buffer words slots image run d turns = Unit {0}
 
 abbrev μ-loop : tie.MeasureT-loop
-μ-loop buffer₀ words₀ slots₀ run₀ d₀ turns₀ buffer words slots run d turns = turns
-
-new-requires : tie.Need-new-requires Inv-loop μ-loop
-new-requires c κs = tt
+μ-loop buffer₀ words₀ slots₀ image₀ run₀ d₀ turns₀ buffer words slots image run d turns = turns
 
 nothing-requires : tie.Need-nothing-requires Inv-loop μ-loop
 nothing-requires c κs = tt
@@ -31,17 +28,14 @@ slice-aggregate-run c = search needs
 run-requires : tie.Need-run-requires Inv-loop μ-loop
 run-requires c κs = tt
 
-answer-and-list-requires : tie.Need-answer-and-list-requires Inv-loop μ-loop
-answer-and-list-requires c κs = tt
-
-is-switched-on-requires : tie.Need-is-switched-on-requires Inv-loop μ-loop
-is-switched-on-requires c κs = tt
+slots-requires : tie.Need-slots-requires Inv-loop μ-loop
+slots-requires c κs = tt
 
 slots-requires-2 : tie.Need-slots-requires-2 Inv-loop μ-loop
 slots-requires-2 c κs = tt
 
-slots-requires : tie.Need-slots-requires Inv-loop μ-loop
-slots-requires c κs = tt
+is-switched-on-requires : tie.Need-is-switched-on-requires Inv-loop μ-loop
+is-switched-on-requires c κs = tt
 
 compared-requires : tie.Need-compared-requires Inv-loop μ-loop
 compared-requires c κs = tt
@@ -67,17 +61,15 @@ replay-spec =
     (tie.spec
     Inv-loop
     μ-loop
-    new-requires
     nothing-requires
     loop-holds
     read-on-requires
     call-of-requires
     slice-aggregate-run
     run-requires
-    is-switched-on-requires
-    answer-and-list-requires
     slots-requires
     slots-requires-2
+    is-switched-on-requires
     compared-requires
     sub-turns
     loop-less

@@ -23,8 +23,8 @@ mul-s c = search needs
 array-copy-out-s : tie.Need-array-copy-out-s Inv-loop μ-loop
 array-copy-out-s c = search needs
 
-pack-requires : tie.Need-pack-requires Inv-loop μ-loop
-pack-requires c κs = tt
+word-of-requires : tie.Need-word-of-requires Inv-loop μ-loop
+word-of-requires c κs = tt
 
 put-eight-requires : tie.Need-put-eight-requires Inv-loop μ-loop
 put-eight-requires c κs = tt
@@ -59,7 +59,7 @@ put-slots-spec =
     loop-holds
     mul-s
     array-copy-out-s
-    pack-requires
+    word-of-requires
     put-eight-requires
     add-i
     loop-less

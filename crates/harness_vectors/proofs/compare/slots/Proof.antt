@@ -26,8 +26,8 @@ mul-listed c = omega arith
 element-copy-out-listed : tie.Need-element-copy-out-listed Inv-loop μ-loop
 element-copy-out-listed c = omega arith
 
-pack-requires : tie.Need-pack-requires Inv-loop μ-loop
-pack-requires c κs = tt
+word-of-requires : tie.Need-word-of-requires Inv-loop μ-loop
+word-of-requires c κs = tt
 
 difference-at-requires : tie.Need-difference-at-requires Inv-loop μ-loop
 difference-at-requires c κs = tt
@@ -61,7 +61,7 @@ slots-spec =
     array-copy-out-slot
     mul-listed
     element-copy-out-listed
-    pack-requires
+    word-of-requires
     difference-at-requires
     returns
     add-i
