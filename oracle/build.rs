@@ -1,14 +1,27 @@
-//! Points the library at the four Rust files, which it compiles where they lie.
-//! `ARM_VGIC_SRC` names their folder; `default-source`, read from the
-//! repository's root, is used where it is not set. With the feature `rattle` it
-//! also links the Rattle Distributor, from the folder that `RATTLE_LIB` names.
+//! Points the library at the four Rust files. `ARM_VGIC_SRC` names their folder;
+//! `default-source`, read from the repository's root, is used where it is not set.
+//! Three are compiled where they lie. interrupt.rs gets a line behind its last one,
+//! in a copy in cargo's own folder: `made.rs` becomes a child of it, which can make
+//! a record from its fields. With the features `rattle` and `face` this also links
+//! the Rattle libraries, from the folder that `RATTLE_LIB` names.
 
-use std::{env, fs, path::PathBuf, process};
+use std::{
+    env, fs,
+    path::{Path, PathBuf},
+    process,
+};
 
 const MODULES: [&str; 4] = ["types", "interrupt", "register", "distributor"];
 
+/// The features that link a library, and which.
+const LIBRARIES: [(&str, &str); 2] = [
+    ("CARGO_FEATURE_RATTLE", "harness_batch"),
+    ("CARGO_FEATURE_FACE", "face"),
+];
+
 fn main() {
     let package = PathBuf::from(env::var_os("CARGO_MANIFEST_DIR").unwrap());
+    let made = PathBuf::from(env::var_os("OUT_DIR").unwrap());
     let source = env::var_os("ARM_VGIC_SRC").map_or_else(
         || {
             package
@@ -21,28 +34,47 @@ fn main() {
     println!("cargo:rerun-if-changed=default-source");
 
     println!("cargo:rerun-if-env-changed=RATTLE_LIB");
-    if env::var_os("CARGO_FEATURE_RATTLE").is_some() {
-        let Some(folder) = env::var_os("RATTLE_LIB").map(PathBuf::from) else {
-            eprintln!("oracle: RATTLE_LIB is to name the folder of libharness_batch.a");
-            process::exit(2);
-        };
-        println!(
-            "cargo:rerun-if-changed={}",
-            folder.join("libharness_batch.a").display()
-        );
-        println!("cargo:rustc-link-search=native={}", folder.display());
-        println!("cargo:rustc-link-lib=static=harness_batch");
+    for (feature, library) in LIBRARIES {
+        if env::var_os(feature).is_some() {
+            link(library);
+        }
     }
 
     let mut text = String::new();
     for module in MODULES {
-        let Ok(file) = source.join(module).with_extension("rs").canonicalize() else {
+        let Ok(mut file) = source.join(module).with_extension("rs").canonicalize() else {
             eprintln!("oracle: no {module}.rs in {}", source.display());
             process::exit(2);
         };
         println!("cargo:rerun-if-changed={}", file.display());
+        if module == "interrupt" {
+            file = with_child(&file, &package.join("src/made.rs"), &made);
+        }
         text += &format!("#[allow(dead_code)]\n#[path = {file:?}]\nmod {module};\n");
     }
-    let sources = PathBuf::from(env::var_os("OUT_DIR").unwrap()).join("sources.rs");
-    fs::write(sources, text).unwrap();
+    fs::write(made.join("sources.rs"), text).unwrap();
+}
+
+fn link(library: &str) {
+    let Some(folder) = env::var_os("RATTLE_LIB").map(PathBuf::from) else {
+        eprintln!("oracle: RATTLE_LIB is to name the folder of lib{library}.a");
+        process::exit(2);
+    };
+    let archive = folder.join(format!("lib{library}.a"));
+    println!("cargo:rerun-if-changed={}", archive.display());
+    println!("cargo:rustc-link-search=native={}", folder.display());
+    println!("cargo:rustc-link-lib=static={library}");
+}
+
+/// A copy of a file that declares one more module, its child.
+fn with_child(file: &Path, child: &Path, folder: &Path) -> PathBuf {
+    let name = child.file_stem().unwrap().display();
+    let text = fs::read_to_string(file).unwrap();
+    let copy = folder.join(file.file_name().unwrap());
+    fs::write(
+        &copy,
+        format!("{text}\n#[path = {child:?}]\npub(crate) mod {name};\n"),
+    )
+    .unwrap();
+    copy
 }

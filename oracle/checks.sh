@@ -51,8 +51,8 @@ program_arguments() { # PROGRAM ARGS..
         usage='oracle/run board'
         [ $# -eq 0 ] || misused 'it takes no argument'
         ;;
-    compare)
-        usage='oracle/compare [SEED] [COUNT]'
+    compare | damaged)
+        usage="oracle/$program [SEED] [COUNT]"
         [ $# -le 2 ] || misused 'it takes two numbers at most'
         number SEED 0 "${1-1}"
         number COUNT 1 "${2-1}"
@@ -65,7 +65,7 @@ program_arguments() { # PROGRAM ARGS..
         ;;
     *)
         usage='oracle/run PROGRAM ARGS..'
-        misused "the programs are list, board, compare and bench, not '$program'"
+        misused "the programs are list, board, compare, damaged and bench, not '$program'"
         ;;
     esac
 }

@@ -1,33 +1,48 @@
-//! Holds two machines against each other, and cuts a sequence that shows a
-//! difference down to a short one.
+//! Holds machines against each other, and cuts a sequence that shows a difference
+//! down to a short one.
 
 use crate::{
     calls::Call,
     machine::{Machine, Recorder, Step},
 };
 
-/// The first step in which two machines differ.
+/// The first step in which a machine differs from the first one.
 pub struct Difference {
     /// How many calls came before.
     pub at: usize,
-    pub steps: [Step; 2],
+    /// What the first machine has.
+    pub step: Step,
+    pub other: Other,
 }
 
-/// Runs a sequence, which begins with a creation, on both machines. `note` gets
-/// each step on which they agree.
+/// What the other one has.
+#[derive(Debug)]
+pub enum Other {
+    /// The second machine's step.
+    Machine(Step),
+    /// How the face departs.
+    Face(String),
+}
+
+/// Runs a sequence, which begins with a creation, on both machines. `follow` gets
+/// each step on which they agree; the face follows so.
 pub fn compare(
     calls: &[Call],
     one: impl Machine,
     other: impl Machine,
-    mut note: impl FnMut(&Step),
+    mut follow: impl FnMut(&Step) -> Result<(), String>,
 ) -> Option<Difference> {
     let (mut one, mut other) = (Recorder::new(one), Recorder::new(other));
     for (at, &call) in calls.iter().enumerate() {
-        let steps = [one.step(call), other.step(call)];
-        if steps[0] != steps[1] {
-            return Some(Difference { at, steps });
-        }
-        note(&steps[0]);
+        let [step, second] = [one.step(call), other.step(call)];
+        let other = if step != second {
+            Other::Machine(second)
+        } else if let Err(words) = follow(&step) {
+            Other::Face(words)
+        } else {
+            continue;
+        };
+        return Some(Difference { at, step, other });
     }
     None
 }
@@ -106,7 +121,7 @@ mod tests {
         for index in 0..40 {
             let calls: Vec<Call> = Sequence::new(5, index, 300).collect();
             let [one, other] = [Oracle::default(), Oracle::default()];
-            assert!(compare(&calls, one, other, |_| ()).is_none());
+            assert!(compare(&calls, one, other, |_| Ok(())).is_none());
         }
     }
 
@@ -122,7 +137,7 @@ mod tests {
         ] {
             let differs = |calls: &[Call]| {
                 let wrong = Wrong(Oracle::default(), fault);
-                compare(calls, Oracle::default(), wrong, |_| ()).is_some()
+                compare(calls, Oracle::default(), wrong, |_| Ok(())).is_some()
             };
             let mut sequences = (0..80).map(|index| Sequence::new(5, index, 300).collect());
             let found = sequences.find(|calls: &Vec<Call>| differs(calls));

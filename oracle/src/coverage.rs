@@ -201,7 +201,7 @@ impl Coverage {
     }
 }
 
-fn cells<T: Display, const N: usize>(row: [T; N]) -> String {
+pub(crate) fn cells<T: Display, const N: usize>(row: [T; N]) -> String {
     row.iter().map(|cell| format!("{cell:>8}")).collect()
 }
 

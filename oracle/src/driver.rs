@@ -10,6 +10,7 @@ use crate::{
     InterruptState, LpiId, PpiId, Priority, SgiId, SpiId, TriggerMode, VgicError, VgicResult,
     calls::{Answer, Call, Op, UNTOUCHED},
     controller::ControllerConfig,
+    interrupt::made,
     machine::{
         ACTIVE, CLAIMED, EDGE, ENABLED, FIXED, INFLIGHT, LINE, MASKED, Machine, PENDING,
         REDELIVERY, ROUTED,
@@ -68,6 +69,24 @@ impl Machine for Oracle {
 }
 
 impl Oracle {
+    /// Makes a Distributor with the settings of a creation, in any state: a slot
+    /// may be one that no call reaches.
+    pub fn load(&mut self, creation: &Call, switch: bool, slots: &[u64]) {
+        self.create(creation).expect("N is at most 988");
+        let state = self.state();
+        state.set_enabled_for_rollback(switch);
+        for (raw, &slot) in (32..).zip(slots) {
+            let spi = SpiId::new(raw).unwrap();
+            let claim = match (slot & CLAIMED != 0, slot & FIXED != 0) {
+                (false, _) => Ok(()),
+                (true, false) => state.claim_software_spi(spi),
+                (true, true) => state.claim_physical_spi(spi, GicAffinity::from_mpidr(0)),
+            };
+            claim.expect("a new SPI is not claimed");
+            *state.interrupt_mut(spi).unwrap() = made::record(spi, slot);
+        }
+    }
+
     /// The answer without the lent list, which the Rust does not have: it hands
     /// back a list of its own. A row a call; `done` is for those without a value.
     #[allow(clippy::unit_arg)]
@@ -362,7 +381,7 @@ mod tests {
     use std::panic;
 
     use super::*;
-    use crate::reach;
+    use crate::{image, reach};
 
     /// A record's slot by the text that `Debug` gives of it.
     fn slot_by_text(record: &InterruptRecord) -> u64 {
@@ -456,6 +475,50 @@ mod tests {
             assert_eq!(slots(&mut oracle), seen);
             run(&mut oracle, Op::Release, &[64]);
             assert_eq!(slots(&mut oracle)[32] & (CLAIMED | FIXED), 0);
+        }
+    }
+
+    /// Every good combination of flags, whether calls reach it or not.
+    #[test]
+    fn any_state_can_be_loaded() {
+        let mut oracle = Oracle::default();
+        let reached = reach::combinations(&mut oracle);
+        let mut loaded = Vec::new();
+        let mut met = 0;
+        for flags in 0..=reach::FLAGS {
+            let mut slot = flags | 0xa5 << 16;
+            if slot & ROUTED != 0 {
+                slot |= 0x4433_2211 << 32;
+            }
+            if slot & MASKED != 0 {
+                slot |= 0x5a << 24;
+            }
+            if image::bad_record(slot).is_some() {
+                continue;
+            }
+            loaded.push(slot);
+            met += usize::from(reached.contains_key(&flags));
+        }
+        assert_eq!((loaded.len(), met), (128 * 9, reached.len()));
+        for (switch, slots) in [false, true].into_iter().zip(loaded.chunks(900)) {
+            let creation = Call::new(Op::Create, &[slots.len() as u64, 1, 0, 0]);
+            oracle.load(&creation, switch, slots);
+            assert_eq!(oracle.switch(), switch);
+            assert_eq!(self::slots(&mut oracle), slots);
+        }
+    }
+
+    #[test]
+    fn a_record_that_is_made_is_the_one_that_calls_reach() {
+        let mut oracle = Oracle::default();
+        for way in reach::combinations(&mut oracle).values() {
+            for call in way {
+                oracle.run(call);
+            }
+            let slot = slots(&mut oracle)[0];
+            let reached = oracle.record(32).unwrap();
+            let made = made::record(SpiId::new(32).unwrap(), slot);
+            assert_eq!(format!("{made:?}"), format!("{reached:?}"));
         }
     }
 

@@ -104,7 +104,7 @@ impl Random {
         self.any() % limit
     }
 
-    fn chance(&mut self, percent: u64) -> bool {
+    pub fn chance(&mut self, percent: u64) -> bool {
         self.below(100) < percent
     }
 
@@ -112,11 +112,12 @@ impl Random {
         &from[self.below(from.len() as u64) as usize]
     }
 
-    fn plan(&mut self, plans: &[(u64, Plan)]) -> Plan {
-        let mut at = self.below(plans.iter().map(|(weight, _)| weight).sum());
-        for &(weight, plan) in plans {
-            if at < weight {
-                return plan;
+    /// One of some choices, each with its weight.
+    pub fn weighted<'a, T>(&mut self, choices: &'a [(u64, T)]) -> &'a T {
+        let mut at = self.below(choices.iter().map(|(weight, _)| weight).sum());
+        for (weight, choice) in choices {
+            if at < *weight {
+                return choice;
             }
             at -= weight;
         }
@@ -144,7 +145,7 @@ impl Iterator for Sequence {
     fn next(&mut self) -> Option<Call> {
         self.left = self.left.checked_sub(1)?;
         while self.planned.is_empty() {
-            let plan = self.random.plan(self.plans);
+            let plan = self.random.weighted(self.plans);
             plan(self);
         }
         self.planned.pop_front()

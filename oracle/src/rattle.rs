@@ -5,41 +5,16 @@
 //! will come (`announce`) and runs them at once. A call that was not announced
 //! makes it run all calls since the last creation again.
 
-use std::marker::PhantomData;
-
 use crate::{
     calls::{Answer, Call, Op},
     machine::Machine,
+    slices::{Slice, lend, lend_mut},
 };
 
-/// A slice as it crosses: a pointer and a count.
-#[repr(C)]
-struct Slice<'a, P> {
-    first: P,
-    count: usize,
-    lent: PhantomData<&'a P>,
-}
-
-// Safe, since a `Slice` is made by the two functions below alone.
+// Safe, since a `Slice` comes from lent bytes alone.
 unsafe extern "C" {
     safe fn batch_run(calls: Slice<*const u8>, seen: Slice<*mut u8>) -> usize;
     safe fn batch_bench(calls: Slice<*const u8>) -> u64;
-}
-
-fn lend(bytes: &[u8]) -> Slice<'_, *const u8> {
-    Slice {
-        first: bytes.as_ptr(),
-        count: bytes.len(),
-        lent: PhantomData,
-    }
-}
-
-fn lend_mut(bytes: &mut [u8]) -> Slice<'_, *mut u8> {
-    Slice {
-        first: bytes.as_mut_ptr(),
-        count: bytes.len(),
-        lent: PhantomData,
-    }
 }
 
 /// Each call as 33 bytes: its number, and its arguments of 8 bytes each, the

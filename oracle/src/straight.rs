@@ -54,7 +54,7 @@ impl Accesses {
     pub fn sum(&self) -> u64 {
         let count = self.config.spi_count as usize;
         let mut state = DistributorState::new(count).expect("N is at most 988");
-        let mut sum = Sum(0);
+        let mut sum = Sum::default();
         for access in &self.accesses {
             match *access {
                 Access::Read { offset, width } => match state.read(offset, width, &self.config) {
@@ -77,22 +77,28 @@ impl Accesses {
                 },
             }
         }
-        sum.0
+        sum.total()
     }
 }
 
-struct Sum(u64);
+/// A sum of answers, so that no optimiser can leave any of them out.
+#[derive(Default)]
+pub(crate) struct Sum(u64);
 
 impl Sum {
     /// Turned by a bit, so that the order counts.
-    fn more(&mut self, word: u64) {
+    pub(crate) fn more(&mut self, word: u64) {
         self.0 = self.0.rotate_left(1).wrapping_add(word);
     }
 
-    fn answer(&mut self, kind: u64, payload: u64, count: u64) {
+    pub(crate) fn answer(&mut self, kind: u64, payload: u64, count: u64) {
         self.more(kind);
         self.more(payload);
         self.more(count);
+    }
+
+    pub(crate) fn total(&self) -> u64 {
+        self.0
     }
 
     #[cold]
@@ -125,7 +131,7 @@ mod tests {
             if oracle.run(&calls[0]).kind != 0 {
                 continue;
             }
-            let mut sum = Sum(0);
+            let mut sum = Sum::default();
             for call in &calls[1..] {
                 let answer = oracle.run(call);
                 met[usize::from(answer.kind)] = true;
@@ -138,7 +144,7 @@ mod tests {
                     sum.more(intid.into());
                 }
             }
-            assert_eq!(Accesses::new(&calls).sum(), sum.0, "sequence {index}");
+            assert_eq!(Accesses::new(&calls).sum(), sum.total(), "sequence {index}");
         }
         assert_eq!(met, [true, true, false, true, true]);
     }

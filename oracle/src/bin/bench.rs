@@ -1,12 +1,13 @@
-//! `bench [CALLS] [REPEATS]` times mixed reads and writes on the Rust and on the
-//! Rattle Distributor, and prints how many times as long the one takes as the
-//! other. A sum of all answers has to be the same, so that no optimiser can leave
-//! any of them out.
+//! `bench [CALLS] [REPEATS]` times mixed reads and writes on the Rust, on the Rattle
+//! Distributor by value (the core) and on its C face, and prints how many times as
+//! long each of the two takes as the Rust. A sum of all answers has to be the same,
+//! so that no optimiser can leave any of them out.
 
 use std::{env, hint::black_box, process, time::Instant};
 
 use oracle::{
     calls::{Call, Op},
+    face::linked,
     generate::Random,
     rattle,
     registers::{BANKS, Bank},
@@ -21,45 +22,39 @@ fn main() {
         Some(arg) => arg.parse().unwrap_or_else(|_| usage()),
         None => otherwise,
     };
-    let (count, repeats) = (number(0, 1_000_000), number(1, 5));
+    let (count, repeats) = (number(0, 1_000_000), number(1, 9));
     if args.len() > 2 || count == 0 || repeats == 0 {
         usage();
     }
     println!("{count} reads and writes, all guest-owned, {repeats} repeats; ns a call");
-    println!(
-        "{:>5}{:>12}{:>12}{:>14}{:>14}{:>16}{:>16}",
-        "N", "Rust min", "median", "Rattle min", "median", "ratio of mins", "of medians"
-    );
+    let heads = ["Rust", "core", "face", "core/Rust", "face/Rust"];
+    let heads = heads.map(|head| format!("{head:>12}{:>9}", "median"));
+    println!("{:>5}{}", "N", heads.concat());
     for spis in [988, 40] {
         let calls = mixed(spis, count);
-        let (accesses, bytes) = (Accesses::new(&calls), rattle::encode(&calls));
-        let mut times = [Vec::new(), Vec::new()];
+        let (rust, face) = (Accesses::new(&calls), linked::Accesses::new(&calls));
+        let core = rattle::encode(&calls);
+        let mut times = [const { Vec::new() }; 3];
         for _ in 0..repeats {
             let sums = [
-                timed(&mut times[0], || black_box(&accesses).sum()),
-                timed(&mut times[1], || rattle::bench(black_box(&bytes))),
+                timed(&mut times[0], || black_box(&rust).sum()),
+                timed(&mut times[1], || rattle::bench(black_box(&core))),
+                timed(&mut times[2], || black_box(&face).sum()),
             ];
-            if sums[0] != sums[1] {
-                println!(
-                    "N = {spis}: the sums {:x} and {:x} differ",
-                    sums[0], sums[1]
-                );
+            if sums != [sums[0]; 3] {
+                println!("N = {spis}: the sums {sums:x?} of Rust, core and face differ");
                 process::exit(1);
             }
         }
-        let [rust, rattle] = times.map(|mut times| {
+        // The shortest time and the median.
+        let [rust, core, face] = times.map(|mut times| {
             times.sort_by(f64::total_cmp);
             [times[0], times[repeats / 2]].map(|time| time / count as f64 * 1e9)
         });
-        println!(
-            "{spis:>5}{:>12.1}{:>12.1}{:>14.1}{:>14.1}{:>16.1}{:>16.1}",
-            rust[0],
-            rust[1],
-            rattle[0],
-            rattle[1],
-            rattle[0] / rust[0],
-            rattle[1] / rust[1]
-        );
+        let over_rust = |times: [f64; 2]| [times[0] / rust[0], times[1] / rust[1]];
+        let rows = [rust, core, face, over_rust(core), over_rust(face)];
+        let rows = rows.map(|[shortest, median]| format!("{shortest:>12.1}{median:>9.1}"));
+        println!("{spis:>5}{}", rows.concat());
     }
 }
 

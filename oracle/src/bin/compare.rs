@@ -1,7 +1,7 @@
-//! `compare [SEED] [COUNT]` runs fresh sequences on the Rust and on the Rattle
-//! Distributor until COUNT calls are compared, a million if none is given. Each
-//! seed from SEED on gives 64 sequences. At the first difference it prints a short
-//! sequence that shows it and exits 1.
+//! `compare [SEED] [COUNT]` runs fresh sequences on three machines, the Rust, the
+//! Rattle Distributor and its C face, until COUNT calls are compared, a million if
+//! none is given. Each seed from SEED on gives 64 sequences. At the first difference
+//! it prints a short sequence that shows it and exits 1.
 
 use std::{
     env,
@@ -12,9 +12,10 @@ use std::{
 
 use oracle::{
     calls::Call,
-    compare::{Difference, compare, shorten},
+    compare::{Difference, Other, compare, shorten},
     coverage::Coverage,
     driver::Oracle,
+    face::{Follower, linked::Linked},
     generate::Sequence,
     list,
     machine::Step,
@@ -41,19 +42,22 @@ fn main() -> ExitCode {
     }
     let began = Instant::now();
     let mut coverage = Coverage::default();
-    let mut rattle = Rattle::default();
+    let mut machines = Machines {
+        core: Rattle::default(),
+        face: Follower::new(Linked),
+    };
     let (mut compared, mut told) = (0, 0);
     for sequence in 0.. {
         let seed = first.wrapping_add(sequence / OF_A_SEED);
         let index = sequence % INDICES;
         let calls: Vec<Call> = Sequence::new(seed, index, CALLS).collect();
         let note = |step: &_| coverage.note(step);
-        if let Some(difference) = differ(&mut rattle, &calls, note) {
+        if let Some(difference) = machines.differ(&calls, note) {
             println!(
                 "difference in sequence {index} of seed {seed}, call {}",
                 difference.at
             );
-            report(&mut rattle, &calls);
+            report(&mut machines, &calls);
             return ExitCode::from(1);
         }
         compared += calls.len() as u64;
@@ -76,16 +80,28 @@ fn main() -> ExitCode {
     ExitCode::SUCCESS
 }
 
-fn differ(rattle: &mut Rattle, calls: &[Call], note: impl FnMut(&Step)) -> Option<Difference> {
-    rattle.announce(calls);
-    compare(calls, Oracle::default(), rattle, note)
+/// Those that are held to the Rust.
+struct Machines {
+    core: Rattle,
+    face: Follower<Linked>,
+}
+
+impl Machines {
+    fn differ(&mut self, calls: &[Call], mut note: impl FnMut(&Step)) -> Option<Difference> {
+        let Self { core, face } = self;
+        core.announce(calls);
+        compare(calls, Oracle::default(), core, |step| {
+            note(step);
+            face.follow(step)
+        })
+    }
 }
 
 /// The shortest sequence that was found, as lines of a list, and what each
 /// machine has in the last.
-fn report(rattle: &mut Rattle, calls: &[Call]) {
-    let short = shorten(calls, |calls| differ(rattle, calls, |_| ()).is_some());
-    let difference = differ(rattle, &short, |_| ()).expect("it still differs");
+fn report(machines: &mut Machines, calls: &[Call]) {
+    let short = shorten(calls, |calls| machines.differ(calls, |_| ()).is_some());
+    let difference = machines.differ(&short, |_| ()).expect("it still differs");
     println!("{} calls show it:", difference.at + 1);
     for Call {
         op,
@@ -98,14 +114,22 @@ fn report(rattle: &mut Rattle, calls: &[Call]) {
             op.name()
         );
     }
-    let mut out = io::stdout().lock();
-    for (name, step) in ["the Rust", "Rattle"].into_iter().zip(&difference.steps) {
-        write!(out, "{name:8} ").ok();
-        list::print(&mut out, step).ok();
-        if step.answer.lent != difference.steps[0].answer.lent {
-            writeln!(out, "         the lent list {:x?}", step.answer.lent).ok();
+    print("the Rust", &difference.step);
+    match difference.other {
+        Other::Machine(step) => {
+            print("Rattle", &step);
+            if step.answer.lent != difference.step.answer.lent {
+                println!("         the lent list {:x?}", step.answer.lent);
+            }
         }
+        Other::Face(words) => println!("the face {words}"),
     }
+}
+
+fn print(name: &str, step: &Step) {
+    let mut out = io::stdout().lock();
+    write!(out, "{name:8} ").ok();
+    list::print(&mut out, step).ok();
 }
 
 fn usage() -> ! {
