@@ -7,13 +7,13 @@ ghost use Rattle.answers.specs.Answers.{told_read, told_write};
 use bank::bank::Beyond;
 use identifiers::error::Refusal;
 
-#[derive(Drop)]
+#[derive(Clone, Copy)]
 pub enum ReadAnswer {
     Done(u64),
     Refused(Refusal),
 }
 
-#[derive(Drop)]
+#[derive(Clone, Copy)]
 pub enum WriteAnswer {
     // How many candidates stand in the first places of the list.
     Done(usize),

@@ -1,2 +1,4 @@
 // What the guest is answered.
+#![tactic(auto)]
+
 pub mod answer;

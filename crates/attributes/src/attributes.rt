@@ -4,7 +4,7 @@ ghost use Rattle.attributes.specs.Affinity.{affinity, from_mpidr, mpidr_of};
 ghost use Rattle.attributes.specs.States.{pending_of, active_of, state_of, level_of};
 
 // A core's address in four levels of one byte, in the order in which an image has them.
-#[derive(Drop)]
+#[derive(Clone, Copy)]
 pub struct GicAffinity {
     aff0: u8,
     aff1: u8,
@@ -71,7 +71,7 @@ impl GicAffinity {
 }
 
 // A priority: the lower the number, the sooner the interrupt is taken.
-#[derive(Drop)]
+#[derive(Clone, Copy)]
 pub struct Priority(u8);
 
 impl Priority {
@@ -91,7 +91,7 @@ impl Priority {
 }
 
 // How the line of a wired interrupt speaks.
-#[derive(Drop)]
+#[derive(Clone, Copy)]
 pub enum TriggerMode {
     Edge,
     Level,
@@ -109,7 +109,7 @@ impl TriggerMode {
 }
 
 // Where an interrupt stands in its life, as Arm's document names it.
-#[derive(Drop)]
+#[derive(Clone, Copy)]
 pub enum InterruptState {
     Inactive,
     Pending,

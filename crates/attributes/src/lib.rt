@@ -1,2 +1,4 @@
 // What an interrupt has besides its identifier.
+#![tactic(auto)]
+
 pub mod attributes;

@@ -10,7 +10,7 @@ use interrupt::interrupt::{InterruptRecord, Route};
 use place::place::is_beyond;
 
 // A flag of an interrupt. Two banks show it: a write to the one sets it, to the other clears it.
-#[derive(Drop)]
+#[derive(Clone, Copy)]
 pub enum Flag {
     Enabled,
     Pending,
@@ -18,7 +18,7 @@ pub enum Flag {
 }
 
 // What a bank with one field for each INTID holds.
-#[derive(Drop)]
+#[derive(Clone, Copy)]
 pub enum Field {
     Group,
     Priority,
@@ -27,7 +27,7 @@ pub enum Field {
 }
 
 // What holds of a field, whoever's it is.
-#[derive(Drop)]
+#[derive(Clone, Copy)]
 pub struct FieldRule {
     // The bits for each INTID.
     bits: u64,
@@ -41,7 +41,7 @@ pub struct FieldRule {
 }
 
 // A bank holds a field of the same width for each INTID. Arm's names for them:
-#[derive(Drop)]
+#[derive(Clone, Copy)]
 pub enum Bank {
     // ISENABLER, ISPENDR, ISACTIVER: writing 1 sets the flag.
     Set(Flag),
@@ -52,7 +52,7 @@ pub enum Bank {
 }
 
 // The lowest INTID over which an access is refused, if there is one.
-#[derive(Drop)]
+#[derive(Clone, Copy)]
 pub enum Beyond {
     Nothing,
     At(u32),

@@ -7,7 +7,7 @@ use interrupt::interrupt::InterruptRecord;
 use operation::operation::{Operation, apply};
 use ownership::ownership::Ownership;
 
-#[derive(Drop)]
+#[derive(Clone, Copy)]
 pub enum Change {
     // By software.
     Claim,

@@ -3,7 +3,7 @@ ghost use Rattle.std.specs.Prelude.{◌≡◌};
 ghost use Rattle.controller.specs.Modes.{explicit};
 
 // Which SPIs count as the guest's.
-#[derive(Drop)]
+#[derive(Clone, Copy)]
 pub enum GicV3SpiOwnership {
     // All of them.
     AllGuestOwned,
@@ -22,7 +22,7 @@ impl GicV3SpiOwnership {
     }
 }
 
-#[derive(Drop)]
+#[derive(Clone, Copy)]
 pub struct ControllerConfig {
     pub spi_ownership: GicV3SpiOwnership,
     // The size of the register frame in bytes.

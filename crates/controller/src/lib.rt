@@ -1,3 +1,5 @@
 // The settings of a Distributor, and the registers that have no INTID.
+#![tactic(auto)]
+
 pub mod controller;
 pub mod identity;

@@ -15,7 +15,7 @@ use controller::identity::{IIDR, component_id, ctlr, switch_bit, typer};
 use decoding::decode::{decode, write_access};
 use registers::register::{Access, AccessWidth, Direction, Register};
 
-#[derive(Drop)]
+#[derive(Clone, Copy)]
 pub struct Wrote {
     pub state: DistributorState,
     pub answer: WriteAnswer,

@@ -12,7 +12,7 @@ use identifiers::types::SpiId;
 use place::place::{CreateAnswer, SPIS, create_answer, created_count};
 use slot::slot::Slot;
 
-#[derive(Drop)]
+#[derive(Clone, Copy)]
 pub struct Created {
     // With no SPIs where the creation was refused.
     pub state: DistributorState,

@@ -14,7 +14,7 @@ use place::place::{Place, SPIS, Span, table_size};
 use slot::slot::Slot;
 
 // Only this crate makes one or changes its fields: a claim cannot be forged, and nothing but a call changes an SPI.
-#[derive(Drop)]
+#[derive(Clone, Copy)]
 pub struct DistributorState {
     pub(crate) config: ControllerConfig,
     // The master switch, CTLR bit 1.
@@ -25,7 +25,7 @@ pub struct DistributorState {
 }
 
 // Where a write stands: the state, and how many candidates are listed.
-#[derive(Drop)]
+#[derive(Clone, Copy)]
 pub(crate) struct Listed {
     pub(crate) state: DistributorState,
     pub(crate) count: usize,

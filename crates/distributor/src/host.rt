@@ -12,7 +12,7 @@ use place::place::{Place, PlaceAnswer};
 use spi::change::{ChangeAnswer, change_answer};
 use spi::question::{Question, QuestionAnswer, SlotAnswer};
 
-#[derive(Drop)]
+#[derive(Clone, Copy)]
 pub struct Changed {
     pub state: DistributorState,
     pub answer: ChangeAnswer,

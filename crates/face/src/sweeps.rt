@@ -20,7 +20,7 @@ use image::records::{put, slot_at, word_at};
 use place::place::{Place, Span};
 
 // What a read finds: the fields, or a bad record.
-#[derive(Drop)]
+#[derive(Clone, Copy)]
 pub(crate) enum FieldsRead {
     Value(u64),
     Bad,

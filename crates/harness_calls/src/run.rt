@@ -16,7 +16,7 @@ use identifiers::types::{SpiId, SpiIdAnswer};
 use spi::question::Question;
 
 // The Distributor after a call, and what the call answered.
-#[derive(Drop)]
+#[derive(Clone, Copy)]
 pub struct Ran {
     pub state: DistributorState,
     pub answer: Answer,

@@ -13,7 +13,7 @@ pub const LIST: usize = 3984;
 const PAIRS: usize = 498;
 
 // The number that the face answers, `out`, two places of its list, or 8 bytes of its image.
-#[derive(Drop)]
+#[derive(Clone, Copy)]
 pub enum Part {
     Number,
     Out,
@@ -22,7 +22,7 @@ pub enum Part {
 }
 
 // What the core and the face have of a part, and where it stands. They are not apart where they have the same.
-#[derive(Drop)]
+#[derive(Clone, Copy)]
 pub struct Apart {
     pub part: Part,
     pub at: usize,

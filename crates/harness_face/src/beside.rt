@@ -34,7 +34,7 @@ pub fn has(op: u64) -> bool {
 }
 
 // The core's state but for the slots: what its image has as a header, in numbers of 8 bytes.
-#[derive(Drop)]
+#[derive(Clone, Copy)]
 pub struct Head {
     // Where there is no Distributor, the last creation was refused, and has left its image untouched.
     made: bool,

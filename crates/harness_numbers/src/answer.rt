@@ -7,7 +7,7 @@ use crate::number::wide_word;
 use identifiers::error::Refusal;
 
 // Kind 0 and the value, or a refusal's number and what it carries; and how many candidates are listed.
-#[derive(Drop)]
+#[derive(Clone, Copy)]
 pub struct Answer {
     pub kind: u64,
     pub payload: u64,

@@ -8,7 +8,7 @@ use changes::change::Change;
 use operation::operation::Operation;
 use spi::question::Question;
 
-#[derive(Drop)]
+#[derive(Clone, Copy)]
 pub struct Call {
     pub op: u64,
     pub a: u64,
@@ -18,7 +18,7 @@ pub struct Call {
 }
 
 // What a call is about. Those of one family are run by one function.
-#[derive(Drop)]
+#[derive(Clone, Copy)]
 pub enum Family {
     Identifier,
     Creation,

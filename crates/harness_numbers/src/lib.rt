@@ -1,4 +1,6 @@
 // The calls as numbers, and what is seen of them as numbers (docs/ORACLE.md, "The calls"). No Distributor is in here.
+#![tactic(auto)]
+
 pub mod answer;
 pub mod call;
 pub mod change;

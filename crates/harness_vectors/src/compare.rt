@@ -11,7 +11,7 @@ use slot::slot::Slot;
 // What stands in each place of the list when it is lent. It is no INTID.
 pub const UNTOUCHED: u32 = 0xffff_ffff;
 
-#[derive(Drop)]
+#[derive(Clone, Copy)]
 pub enum What {
     Kind,
     Payload,
@@ -23,7 +23,7 @@ pub enum What {
 }
 
 // What the line and the call have of a thing, and where it stands. There is no difference where they have the same.
-#[derive(Drop)]
+#[derive(Clone, Copy)]
 pub struct Difference {
     pub what: What,
     pub at: usize,

@@ -4,7 +4,7 @@ use crate::line::WORDS;
 // The bytes of the buffer, which are those of `io::large_buffer`.
 pub const BUFFER: usize = 65536;
 
-#[derive(Drop)]
+#[derive(Clone, Copy)]
 pub struct Lexer {
     // The bytes of the buffer that are still to be taken in.
     pub at: usize,

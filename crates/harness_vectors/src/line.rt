@@ -8,7 +8,7 @@ pub const WORDS: usize = 4096;
 pub const CANDIDATES: usize = 8;
 
 // What is seen of a call but for the candidates and the slots.
-#[derive(Drop)]
+#[derive(Clone, Copy)]
 pub struct Seen {
     pub kind: u64,
     pub payload: u64,

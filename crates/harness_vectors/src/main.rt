@@ -1,5 +1,7 @@
 // Replays the board's twelve, and then a list of the Rust's answers from standard input, and says how many calls it compared
 // (docs/ORACLE.md, "The list, replayed"). What the face has of the calls is run through the face as well.
+#![tactic(auto)]
+
 mod arguments;
 mod board;
 mod compare;

@@ -14,7 +14,7 @@ use image::kept::FRESH;
 use libc::STDIN_FILENO;
 use place::place::SPIS;
 
-#[derive(Drop)]
+#[derive(Clone, Copy)]
 pub struct Run {
     // There may be more to read, and nothing is wrong so far.
     pub reading: bool,

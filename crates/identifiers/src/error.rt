@@ -1,5 +1,5 @@
 // The refusals. specs/Answer.antt gives the number of each, and what it carries.
-#[derive(Drop)]
+#[derive(Clone, Copy)]
 pub enum Refusal {
     // 1: an INTID that is outside its range or outside the table.
     InvalidIntId(u32),

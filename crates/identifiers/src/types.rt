@@ -10,40 +10,40 @@ pub const LPI_INTID_BASE: u32 = 8192;
 pub const LPI_INTID_MAX: u32 = 0x00ff_ffff;
 
 // A software-generated interrupt, INTIDs 0 to 15.
-#[derive(Drop)]
+#[derive(Clone, Copy)]
 pub struct SgiId(u8);
 
 // A private peripheral interrupt, INTIDs 16 to 31.
-#[derive(Drop)]
+#[derive(Clone, Copy)]
 pub struct PpiId(u8);
 
 // A shared peripheral interrupt, INTIDs 32 to 1019.
-#[derive(Drop)]
+#[derive(Clone, Copy)]
 pub struct SpiId(u32);
 
 // A locality-specific peripheral interrupt, INTIDs 8192 to 0xffffff.
-#[derive(Drop)]
+#[derive(Clone, Copy)]
 pub struct LpiId(u32);
 
-#[derive(Drop)]
+#[derive(Clone, Copy)]
 pub enum SgiIdAnswer {
     Done(SgiId),
     Refused(Refusal),
 }
 
-#[derive(Drop)]
+#[derive(Clone, Copy)]
 pub enum PpiIdAnswer {
     Done(PpiId),
     Refused(Refusal),
 }
 
-#[derive(Drop)]
+#[derive(Clone, Copy)]
 pub enum SpiIdAnswer {
     Done(SpiId),
     Refused(Refusal),
 }
 
-#[derive(Drop)]
+#[derive(Clone, Copy)]
 pub enum LpiIdAnswer {
     Done(LpiId),
     Refused(Refusal),
@@ -133,7 +133,7 @@ impl LpiId {
 }
 
 // An INTID of any kind that is not reserved.
-#[derive(Drop)]
+#[derive(Clone, Copy)]
 pub enum IntId {
     Sgi(SgiId),
     Ppi(PpiId),
@@ -141,7 +141,7 @@ pub enum IntId {
     Lpi(LpiId),
 }
 
-#[derive(Drop)]
+#[derive(Clone, Copy)]
 pub enum IntIdAnswer {
     Done(IntId),
     Refused(Refusal),

@@ -10,14 +10,14 @@ use place::place::SPIS;
 pub const HEADER: usize = 24;
 
 // What the header of a good image says.
-#[derive(Drop)]
+#[derive(Clone, Copy)]
 pub struct Header {
     pub config: ControllerConfig,
     pub enabled: bool,
     pub spi_count: u32,
 }
 
-#[derive(Drop)]
+#[derive(Clone, Copy)]
 pub enum HeaderAnswer {
     Good(Header),
     Bad,

@@ -14,14 +14,14 @@ use place::place::CreateAnswer;
 use registers::register::AccessWidth;
 use spi::change::{ChangeAnswer, Given};
 
-#[derive(Drop)]
+#[derive(Clone, Copy)]
 pub struct Told {
     pub number: u32,
     pub out: u64,
 }
 
 // A number as a width.
-#[derive(Drop)]
+#[derive(Clone, Copy)]
 pub enum WidthAnswer {
     Of(AccessWidth),
     No,

@@ -10,7 +10,7 @@ use attributes::attributes::{GicAffinity, InterruptState, Priority, TriggerMode}
 use identifiers::types::IntId;
 use life::life::Life;
 
-#[derive(Drop)]
+#[derive(Clone, Copy)]
 pub struct InterruptRecord {
     intid: IntId,
     life: Life,
@@ -25,14 +25,14 @@ pub struct InterruptRecord {
 }
 
 // The record's route, if it has one.
-#[derive(Drop)]
+#[derive(Clone, Copy)]
 pub enum Route {
     To(GicAffinity),
     Unset,
 }
 
 // The record's target mask, if it has one.
-#[derive(Drop)]
+#[derive(Clone, Copy)]
 pub enum TargetMask {
     Cores(u8),
     Unset,
@@ -79,12 +79,13 @@ impl TargetMask {
 }
 
 // The record after a synchronisation, and the merged state.
-#[derive(Drop)]
+#[derive(Clone, Copy)]
 pub struct Synchronized {
     pub interrupt: InterruptRecord,
     pub state: InterruptState,
 }
 
+#[tactic(auto, unfolding(crate::specs::Records::fresh, crate::specs::Records::restored, crate::specs::Records::with_life, crate::specs::Records::state_in, crate::specs::Records::deliverable_in, crate::specs::Records::line_to, crate::specs::Records::line_pulsed, crate::specs::Records::synchronized_with, crate::specs::Records::priority_to, crate::specs::Records::trigger_to, crate::specs::Records::route_to, crate::specs::Records::unrouted, crate::specs::Records::mask_to, crate::specs::Records::route_in, crate::specs::Records::mask_in))]
 impl InterruptRecord {
     pub fn new(intid: IntId, trigger: TriggerMode) -> Self
         ensures { result ≡ fresh intid trigger }

@@ -1,2 +1,4 @@
 // The life of one interrupt: its six flags, and what happens to them.
+#![tactic(auto)]
+
 pub mod life;

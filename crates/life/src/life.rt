@@ -3,7 +3,7 @@
 ghost use Rattle.std.specs.Prelude.{◌≡◌};
 ghost use Rattle.life.specs.Life.{born, enabled_to, pending_to, active_to, state_to, has_delivery, cleared, taken, synchronized, cancelled, deactivated, level_to, pulsed, completed, deliverable};
 
-#[derive(Drop)]
+#[derive(Clone, Copy)]
 pub struct Life {
     pub enabled: bool,
     pub pending: bool,

@@ -6,7 +6,7 @@ ghost use Rattle.operation.specs.Operation.{applied};
 use attributes::attributes::{GicAffinity, InterruptState, Priority, TriggerMode};
 use interrupt::interrupt::InterruptRecord;
 
-#[derive(Drop)]
+#[derive(Clone, Copy)]
 pub enum Operation {
     SetEnabled(bool),
     SetPending(bool),

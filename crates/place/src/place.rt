@@ -8,24 +8,24 @@ use identifiers::error::Refusal;
 // How many SPIs a table has room for: INTIDs 32 to 1019.
 pub const SPIS: usize = 988;
 
-#[derive(Drop)]
+#[derive(Clone, Copy)]
 pub struct Place(usize);
 
 // Those of some INTIDs that the table has: from `first` up to below `end`.
-#[derive(Drop)]
+#[derive(Clone, Copy)]
 pub struct Span {
     pub first: u32,
     pub end: u32,
 }
 
-#[derive(Drop)]
+#[derive(Clone, Copy)]
 pub enum PlaceAnswer {
     Done(Place),
     Refused(Refusal),
 }
 
 // What a creation answers.
-#[derive(Drop)]
+#[derive(Clone, Copy)]
 pub enum CreateAnswer {
     Done,
     Refused(Refusal),

@@ -1,5 +1,7 @@
 // The board's examples, run on the code: the twelve cases on K, those that are run besides, and the lessons. What is printed is held
 // to the file stdout beside src/.
+#![tactic(auto)]
+
 use answers::answer::ReadAnswer;
 use attributes::attributes::GicAffinity;
 use controller::controller::{ControllerConfig, GicV3SpiOwnership};

@@ -1,5 +1,7 @@
 // A level SPI that a core is handling: its line falls, and a pulse comes. The pulse came in flight, so it is kept as one more
 // delivery, and the interrupt is pending again once the core has finished.
+#![tactic(auto)]
+
 ghost use Rattle.std.specs.Prelude.{◌≡◌, false};
 ghost use Rattle.interrupt.specs.Records.{line_to, line_pulsed};
 

@@ -2,6 +2,8 @@
 // `from: operation: to`; what is printed is held to the file stdout beside src/, and tools/life draws docs/life.svg from it. Where an
 // operation leads rests on the flags and the trigger alone (`flags-after` and `synchronized-flags` in crates/operation/specs/Laws.antt), so one record stands
 // for all that have its combination.
+#![tactic(auto)]
+
 mod flags;
 mod operations;
 

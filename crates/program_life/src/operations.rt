@@ -8,7 +8,7 @@ use operation::operation::{Operation, apply};
 pub const COUNT: u32 = 30;
 
 // A named operation, or one of the two that are none.
-#[derive(Drop)]
+#[derive(Clone, Copy)]
 pub enum Action {
     Operate(Operation),
     SynchronizeInflight(InterruptState),

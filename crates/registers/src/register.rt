@@ -8,7 +8,7 @@ use bank::bank::{Bank, Field, Flag};
 use identifiers::error::Refusal;
 
 // How many bytes an access covers: 1, 2, 4 or 8.
-#[derive(Drop)]
+#[derive(Clone, Copy)]
 pub enum AccessWidth {
     Byte,
     Word,
@@ -16,14 +16,14 @@ pub enum AccessWidth {
     Qword,
 }
 
-#[derive(Drop)]
+#[derive(Clone, Copy)]
 pub enum Direction {
     Reading,
     Writing,
 }
 
 // What an access reaches.
-#[derive(Drop)]
+#[derive(Clone, Copy)]
 pub enum Register {
     // One of the twelve identification registers, counted from 0.
     Identification(u32),
@@ -37,7 +37,7 @@ pub enum Register {
 }
 
 // An access is legal, or refused.
-#[derive(Drop)]
+#[derive(Clone, Copy)]
 pub enum Access {
     To(Register),
     Refused(Refusal),
@@ -93,7 +93,7 @@ const ICFGR: usize = 12;
 const IROUTER: usize = 13;
 
 // A row of the map: from which offset, up to below which, at every how many bytes; the widths for reading and for writing.
-#[derive(Drop)]
+#[derive(Clone, Copy)]
 pub struct Row(u64, u64, u64, u64, u64);
 
 // The map. A row past the last holds nothing.

@@ -14,14 +14,14 @@ use ownership::ownership::Ownership;
 
 // Only the functions below make a slot or change one. Nothing puts one into a Distributor by value from outside; on a lent image the
 // bytes decide, and `image` makes its slots from them.
-#[derive(Drop)]
+#[derive(Clone, Copy)]
 pub struct Slot {
     interrupt: InterruptRecord,
     ownership: Ownership,
 }
 
 // What a written field leaves of an SPI, and whether the SPI is listed.
-#[derive(Drop)]
+#[derive(Clone, Copy)]
 pub struct FieldWritten {
     pub slot: Slot,
     pub listed: bool,

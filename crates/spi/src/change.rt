@@ -11,14 +11,14 @@ use identifiers::error::Refusal;
 use slot::slot::Slot;
 
 // What a change that was done gives back.
-#[derive(Drop)]
+#[derive(Clone, Copy)]
 pub enum Given {
     Nothing,
     // The merged state of a synchronisation.
     State(InterruptState),
 }
 
-#[derive(Drop)]
+#[derive(Clone, Copy)]
 pub enum ChangeAnswer {
     Done(Given),
     Refused(Refusal),

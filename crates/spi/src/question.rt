@@ -7,7 +7,7 @@ use identifiers::error::Refusal;
 use interrupt::interrupt::{Route, TargetMask};
 use slot::slot::Slot;
 
-#[derive(Drop)]
+#[derive(Clone, Copy)]
 pub enum Question {
     Intid,
     Enabled,
@@ -25,7 +25,7 @@ pub enum Question {
 }
 
 // What a question is answered with.
-#[derive(Drop)]
+#[derive(Clone, Copy)]
 pub enum Value {
     Intid(u32),
     Flag(bool),
@@ -37,13 +37,13 @@ pub enum Value {
 }
 
 // The slot of an SPI, or refusal 1.
-#[derive(Drop)]
+#[derive(Clone, Copy)]
 pub enum SlotAnswer {
     Done(Slot),
     Refused(Refusal),
 }
 
-#[derive(Drop)]
+#[derive(Clone, Copy)]
 pub enum QuestionAnswer {
     Done(Value),
     Refused(Refusal),
