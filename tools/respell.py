@@ -49,7 +49,7 @@ BY_CRATE = {
 # The library's names that lemmas here are about.
 LIBRARY = {"length", "append", "get_or", "drop", "take", "set", "cons", "reverse", "map", "replicate", "min", "max", "pow"}
 
-HEAD = re.compile(r"(?m)^([ ]*)((?:abbrev |unfoldable )*)(?:pub )?(?:(record|data|module) )?([^\s:({.]+)(?: [^:\n=]*)? :(?= )")
+HEAD = re.compile(r"(?m)^([ ]*)((?:abbrev |unfoldable )*)(?:pub )?(?:(record|data|module) )?([^\s:({.]+)(?: [^:\n=]*)? :(?=\s)")
 TOKEN = re.compile(r"[A-Za-z_][A-Za-z0-9_]*(?:[-'?][A-Za-z0-9_*<≡≢≤]+)*[?']*")
 
 

@@ -31,7 +31,7 @@ use Rattle.order.specs.Names.{Name, the_switch, spi}
 use Rattle.order.specs.NamesLaws.{set_at, written_by, named_by, names_so}
 use Rattle.order.specs.OrderFacts.{keeps}
 use Rattle.order.specs.Order.{named, footprint}
-use Rattle.order.specs.Refusals.{asking-still, refused_still}
+use Rattle.order.specs.Refusals.{asking_still, refused_still}
 use Rattle.image.specs.Bytes.{flat, Bytes}
 use Rattle.image.specs.ByteLaws.{length-flat}
 use Rattle.image.specs.Header.{good_image}
@@ -349,7 +349,7 @@ read_keeps offset w image list bytes =
   where
     same : (x : AccessWidth) → good_image image ≡ true → good_named (Call.read offset x) image ≡ true → (image_after (Call.read offset x) image ≡ image) × (laid (flat 4 (reply (Call.read offset x) (meaning image)).candidates) list ≡ list)
     same x good fine = (
-      still_image (Call.read offset x) image bytes good ((asking-still (meaning image)).0 offset x) fine,
+      still_image (Call.read offset x) image bytes good ((asking_still (meaning image)).0 offset x) fine,
       ap (λ (cs : List ℕ). laid (flat 4 cs) list) (reads_none offset x (meaning image)),
     )
 

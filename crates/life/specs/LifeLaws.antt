@@ -12,12 +12,12 @@ module _ (e p a i d l : Bool) where
   deliverable_when = (refl, refl)
 
   -- delivery state exactly when pending, active, in flight or to be delivered again; a high line alone is none
-  pub delivery-when :
+  pub delivery_when :
       (has_delivery (flags e true a i d l) ≡ true) ×
       (has_delivery (flags e false true i d l) ≡ true) ×
       (has_delivery (flags e false false true d l) ≡ true) ×
       (has_delivery (flags e false false false d l) ≡ d)
-  delivery-when = (refl, refl, refl, refl)
+  delivery_when = (refl, refl, refl, refl)
 
   -- ---- the device's line
 
@@ -37,10 +37,10 @@ module _ (e p a i d l : Bool) where
   line-lowered = (simp and-false, simp and-true, simp or-true (simp (and-true p, and-true d)))
 
   -- a pulse pends, and marks redelivery exactly when in flight
-  pub pulse-marks :
+  pub pulse_marks :
       (pulsed (flags e p a true d l) ≡ flags e true a true true l) ×
       (pulsed (flags e p a false d l) ≡ flags e true a false d l)
-  pulse-marks = (simp or-true, simp or-false)
+  pulse_marks = (simp or-true, simp or-false)
 
   -- ---- enabled, pending, active
 
@@ -52,10 +52,10 @@ module _ (e p a i d l : Bool) where
   enabling = (simp or-true, simp or-false, simp or-false)
 
   -- clearing pending drops the mark, setting it does not
-  pub pending-set :
+  pub pending_set :
       (pending_to true (flags e p a i d l) ≡ flags e true a i d l) ×
       (pending_to false (flags e p a i d l) ≡ flags e false a i false l)
-  pending-set = (refl, refl)
+  pending_set = (refl, refl)
 
   -- completing under a high level line pends again, else pending stays
   pub completing :

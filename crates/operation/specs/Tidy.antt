@@ -48,7 +48,7 @@ mask_read true false a d z w e = (cc, cc)
 mask_read false true a d z w e = (cc, cc)
 mask_read false false a d z w e = (refl, z refl ∙ sym (w refl))
 
-pub same-meaning :
+pub same_meaning :
     (r s : InterruptRecord) →
     Tidy (settings_of r) →
     Tidy (settings_of s) →
@@ -60,7 +60,7 @@ pub same-meaning :
     mask_in r ≡ mask_in s →
     r ≡ s
 unfolding route_in mask_in
-same-meaning r s t u i f p g a m =
+same_meaning r s t u i f p g a m =
     let x = route_read r.routed s.routed r.route s.route t.0 u.0 a in
     let y = mask_read r.masked s.masked r.cpu_target_mask s.cpu_target_mask t.1 u.1 m in
     record_path r s i f (λ k. (p k, g k, x.0 k, x.1 k, y.0 k, y.1 k))

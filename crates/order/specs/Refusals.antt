@@ -45,11 +45,11 @@ module _ (d : Distributor) where
       there p (some s) e = ap {B = Option Slot} some (kept p s e)
 
   -- the calls that only ask
-  pub asking-still :
+  pub asking_still :
       ((offset : ℕ) (w : AccessWidth) → step (read offset w) d ≡ d) ×
       (step is_switched_on d ≡ d) ×
       ((q : Question) (raw : ℕ) → step (ask q raw) d ≡ d)
-  asking-still = ((λ offset w. still (read offset w) refl (λ p s at. refl)), still is_switched_on refl (λ p s at. refl), (λ q raw. still (ask q raw) refl (λ p s at. refl)))
+  asking_still = ((λ offset w. still (read offset w) refl (λ p s at. refl)), still is_switched_on refl (λ p s at. refl), (λ q raw. still (ask q raw) refl (λ p s at. refl)))
 
   module _ (r : ℕ) (ws : List ℕ) where
     claim_still : (s t : Slot) → claim_answer s.ownership.explicitly_owned ≡ refused r ws → cond (not s.ownership.explicitly_owned) t s ≡ s
@@ -101,11 +101,11 @@ module _ (d : Distributor) where
     pub refused_still : (k : Call) → (reply k d).answer ≡ refused r ws → ((offset : ℕ) (w : AccessWidth) (v places : ℕ) → k ≡ write offset w v places → r ≢ 1) → step k d ≡ d
     unfolding reply
     refused_still (create c m) e n = still (create c m) refl (λ p s at. refl)
-    refused_still (read offset w) e n = asking-still.0 offset w
+    refused_still (read offset w) e n = asking_still.0 offset w
     refused_still (write offset w v places) e n =
         let (on, kept) = write_still (write_access places (size d) d.config.distributor_size offset w) v e (n offset w v places refl) in
         still (write offset w v places) on (λ p s at. kept (32 + p) s)
     refused_still is_switched_on e n = never _ ws r e
     refused_still (rollback on) e n = never _ ws r e
     refused_still (change h raw) e n = still (change h raw) refl (host_still h raw e)
-    refused_still (ask q raw) e n = asking-still.2 q raw
+    refused_still (ask q raw) e n = asking_still.2 q raw

@@ -80,12 +80,12 @@ both_bits false false = refl
 
 module _ (s : Slot) where
   -- what ISENABLER, ISPENDR, ISACTIVER and IPRIORITYR show to a guest that owns the SPI
-  pub as-shown :
+  pub as_shown :
       (asked Enabled s ≡ number (shown (Set Flag.Enabled) s.interrupt)) ×
       (asked Pending s ≡ number (shown (Set Flag.Pending) s.interrupt)) ×
       (asked Active s ≡ number (shown (Set Flag.Active) s.interrupt)) ×
       (asked Priority s ≡ number (shown (Replace Field.Priority) s.interrupt))
-  as-shown = (refl, refl, refl, refl)
+  as_shown = (refl, refl, refl, refl)
 
   -- the trigger is the upper of the two bits that ICFGR shows
   pub trigger_shown : asked Trigger s ≡ number (shown (Replace Field.Configuration) s.interrupt / 2)
