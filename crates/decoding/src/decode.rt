@@ -19,6 +19,7 @@ fn is_legal(frame: u64, offset: u64, width: AccessWidth) -> bool
 }
 
 // Refusals 3 and 4, in this order, or the register that the access reaches.
+#[tactic(auto, unfolding(crate::specs::Decoding::decode))]
 pub fn decode(direction: Direction, frame: u64, offset: u64, width: AccessWidth) -> Access
     ensures { result ≡ decode direction frame offset width }
 {
