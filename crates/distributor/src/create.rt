@@ -57,6 +57,7 @@ impl DistributorState {
     }
 
     // Whether the master switch is on: CTLR bit 1.
+    #[tactic(auto, unfolding(model::specs::Calls::reply))]
     pub fn is_switched_on(self) -> bool
         ensures { switch_reply result ≡ reply is_switched_on (model_of self) }
     {
