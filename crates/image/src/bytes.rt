@@ -4,6 +4,7 @@ ghost use Rattle.std.proofs.lemmas.List.Edits.{sets};
 ghost use Rattle.image.specs.Bytes.{bytes_of, number_at};
 
 // The number in the 4 bytes from `at` on.
+#[tactic(auto, unfolding(crate::specs::Bytes::number_at))]
 fn load_four(bytes: &[u8], at: usize) -> u32
     requires { at + 4 ≤ length bytes.now }
     ensures { result ≡ number_at 4 at bytes.now }

@@ -23,6 +23,7 @@ pub enum HeaderAnswer {
     Bad,
 }
 
+#[tactic(auto, unfolding(crate::specs::Header::good_header))]
 fn is_good(first: u64, second: u64) -> bool
     ensures { result ≡ good_header first second }
 {
@@ -45,6 +46,7 @@ pub fn ownership_in(explicit: bool) -> GicV3SpiOwnership
 }
 
 // What the header's three numbers say, where they are good.
+#[tactic(auto, unfolding(crate::specs::Header::header_in))]
 fn header_in(first: u64, second: u64, third: u64) -> Header
     ensures { result ≡ header_in first second third }
 {
@@ -65,6 +67,7 @@ fn header_in(first: u64, second: u64, third: u64) -> Header
 }
 
 // The first number of a header: switch, settings and count.
+#[tactic(auto, unfolding(crate::specs::Header::first_word))]
 pub fn first_word(config: ControllerConfig, enabled: bool, spi_count: u32) -> u64
     ensures { result ≡ first_word config enabled spi_count }
 {
@@ -79,6 +82,7 @@ pub fn first_word(config: ControllerConfig, enabled: bool, spi_count: u32) -> u6
 }
 
 // The image's length and header: what a good one says.
+#[tactic(auto, unfolding(crate::specs::Header::good_image))]
 pub fn read_header(image: &[u8]) -> HeaderAnswer
     ensures { result ≡ header_answer image.now }
 {

@@ -102,6 +102,7 @@ fn ownership_in(word: u64) -> Ownership
 }
 
 // The SPI that is kept as this number.
+#[tactic(auto, unfolding(crate::specs::Kept::slot_in))]
 pub fn slot_in(spi: SpiId, word: u64) -> Slot
     ensures { result ≡ slot_in spi.0 word }
 {
@@ -161,6 +162,7 @@ fn mask_word(mask: TargetMask) -> u64
 }
 
 // The number that an SPI is kept as.
+#[tactic(auto, unfolding(crate::specs::Kept::word_of))]
 pub fn word_of(slot: Slot) -> u64
     ensures { result ≡ word_of slot }
 {
