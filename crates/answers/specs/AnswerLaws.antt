@@ -1,7 +1,7 @@
 -- No two answers of a read, or of a write, are told alike.
 use Rattle.std.specs.Prelude.{◌≡◌}
 use Rattle.std.proofs.Common.{ap}
-use Rattle.identifiers.specs.AnswerLaws.{told-refusal}
+use Rattle.identifiers.proofs.AnswerLaws.{told-refusal}
 use Rattle.answers.specs.declared.answer.ReadAnswer.{ReadAnswer}
 use Rattle.answers.specs.declared.answer.WriteAnswer.{WriteAnswer}
 use Rattle.answers.specs.Answers.{told_read, told_write}

@@ -4,7 +4,7 @@ use Rattle.std.proofs.Common.{arith, ap, leb-true, leb-false, ltb-true, le-leb, 
 use Rattle.std.proofs.lemmas.Bool.{lt-leb}
 use Rattle.theory.specs.Bools.{both, refuted}
 use Rattle.identifiers.specs.Answer.{done, refused, told_refusal, within}
-use Rattle.identifiers.specs.AnswerLaws.{told-refusal}
+use Rattle.identifiers.proofs.AnswerLaws.{told-refusal}
 use Rattle.identifiers.specs.declared.error.Refusal.{Refusal}
 use Rattle.identifiers.specs.declared.error.Refusal.TheVariants.{InvalidIntId}
 use Rattle.place.specs.declared.place.CreateAnswer.{CreateAnswer}

@@ -3,7 +3,7 @@ use Rattle.std.specs.Prelude.{◌≡◌, refl}
 use Rattle.std.proofs.Common.{ap}
 use Rattle.attributes.specs.States.{state_number}
 use Rattle.attributes.specs.StateLaws.{state_same}
-use Rattle.identifiers.specs.AnswerLaws.{told-refusal}
+use Rattle.identifiers.proofs.AnswerLaws.{told-refusal}
 use Rattle.spi.specs.declared.change.Given.{Given}
 use Rattle.spi.specs.declared.change.ChangeAnswer.{ChangeAnswer}
 use Rattle.spi.specs.ChangeAnswers.{told_given, told_change}
