@@ -1,7 +1,7 @@
 // The words of a line, taken in from a buffer a byte at a time.
 use crate::line::WORDS;
 
-// The bytes of the buffer, which are those of `io::large_buffer`.
+// The bytes of the buffer.
 pub const BUFFER: usize = 65536;
 
 #[derive(Clone, Copy)]

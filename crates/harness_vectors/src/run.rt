@@ -11,8 +11,9 @@ use harness_face::beside::{Head, IMAGE};
 use harness_numbers::answer::Answer;
 use harness_numbers::call::Call;
 use image::kept::FRESH;
-use libc::STDIN_FILENO;
 use place::place::SPIS;
+use std::io;
+use std::io::Read;
 
 #[derive(Clone, Copy)]
 pub struct Run {
@@ -69,78 +70,84 @@ impl Run {
     // Reads on, up to the end of a line or of the buffer.
     pub fn read_on(
         mut self,
+        rt: &impl Print,
+        input: &mut impl Read,
         buffer: &mut [u8; BUFFER],
         words: &mut [u64; WORDS],
         slots: &mut [u64; SPIS],
-    ) -> Run {
+    ) -> io::Result<Run> {
         self.called = false;
         let mut lexer = self.lexer;
         if lexer.end <= lexer.at {
-            return self.fill(buffer);
+            return self.fill(rt, input, buffer);
         }
         lexer = lexer.take_in(buffer, words);
         if lexer.bad {
-            return self.broken_off();
+            return self.broken_off(rt);
         }
         if lexer.whole {
             self.lexer = Lexer::new(lexer.at, lexer.end);
-            return self.take_line(lexer.count, words, slots);
+            return self.take_line(rt, lexer.count, words, slots);
         }
         self.lexer = lexer;
-        self
+        Ok(self)
     }
 
-    fn fill(mut self, buffer: &mut [u8; BUFFER]) -> Run {
+    fn fill(
+        mut self,
+        rt: &impl Print,
+        input: &mut impl Read,
+        buffer: &mut [u8; BUFFER],
+    ) -> io::Result<Run> {
         if self.board {
-            return self.ended();
+            return self.ended(rt);
         }
-        let got = libc::read(STDIN_FILENO, buffer);
-        if got < 0 {
-            report::unread();
-            return self.stopped();
+        let Ok(end) = input.read(buffer) else {
+            report::unread(rt)?;
+            return Ok(self.stopped());
+        };
+        if end == 0 {
+            return self.ended(rt);
         }
-        if got == 0 {
-            return self.ended();
-        }
-        let end = io::count(got, buffer);
         self.lexer.at = 0;
         self.lexer.end = end;
-        self
+        Ok(self)
     }
 
     // The list is at its end. The one of the input follows the board's.
-    fn ended(self) -> Run {
+    fn ended(self, rt: &impl Print) -> io::Result<Run> {
         let lexer = self.lexer;
         if lexer.within() {
-            return self.broken_off();
+            return self.broken_off(rt);
         }
         if self.board {
-            report::board(self.lines, self.faced);
-            return Run::beginning(false, Lexer::new(0, 0));
+            report::board(rt, self.lines, self.faced)?;
+            return Ok(Run::beginning(false, Lexer::new(0, 0)));
         }
         if self.lines == 0 {
-            report::no_call();
+            report::no_call(rt)?;
         } else {
             report::summary(
+                rt,
                 self.identifiers,
                 self.creations,
                 self.guest,
                 self.host,
                 self.faced,
-            );
+            )?;
         }
-        self.stopped()
+        Ok(self.stopped())
     }
 
     // The line that has begun is bad.
-    fn broken_off(mut self) -> Run {
+    fn broken_off(mut self, rt: &impl Print) -> io::Result<Run> {
         self.lines = next(self.lines);
-        self.bad()
+        self.bad(rt)
     }
 
-    fn bad(self) -> Run {
-        report::bad(self.lines);
-        self.stopped()
+    fn bad(self, rt: &impl Print) -> io::Result<Run> {
+        report::bad(rt, self.lines)?;
+        Ok(self.stopped())
     }
 
     fn stopped(mut self) -> Run {
@@ -150,10 +157,16 @@ impl Run {
 
     // Holds the line to its form, and takes over the slots that it lists. A creation starts from fresh ones, and a refused one
     // leaves no Distributor.
-    fn take_line(mut self, count: usize, words: &[u64; WORDS], slots: &mut [u64; SPIS]) -> Run {
+    fn take_line(
+        mut self,
+        rt: &impl Print,
+        count: usize,
+        words: &[u64; WORDS],
+        slots: &mut [u64; SPIS],
+    ) -> io::Result<Run> {
         self.lines = next(self.lines);
         if !line::is_whole(words, count) {
-            return self.bad();
+            return self.bad(rt);
         }
         let call = line::call_of(words);
         let seen = line::seen_of(words);
@@ -164,13 +177,13 @@ impl Run {
             *slots = [FRESH; SPIS];
         }
         if !arguments::proper(call, seen, self.made, self.spis) {
-            return self.bad();
+            return self.bad(rt);
         }
         if !table::take_over(words, count, self.spis, slots) {
-            return self.bad();
+            return self.bad(rt);
         }
         self.called = true;
-        self.counted(call.op)
+        Ok(self.counted(call.op))
     }
 
     fn counted(mut self, op: u64) -> Run {
@@ -190,6 +203,7 @@ impl Run {
     // face against both.
     pub fn compared(
         self,
+        rt: &impl Print,
         words: &[u64; WORDS],
         answer: Answer,
         switch: bool,
@@ -197,19 +211,19 @@ impl Run {
         table: Difference,
         slots: &[u64; SPIS],
         image: &mut [u8; IMAGE],
-    ) -> Run {
+    ) -> io::Result<Run> {
         let difference = compare::answer_and_list(words, answer, switch, list).or(table);
         if !difference.is_nothing() {
-            report::difference(self.board, self.lines, difference);
-            return self.stopped();
+            report::difference(rt, self.board, self.lines, difference)?;
+            return Ok(self.stopped());
         }
         let head = Head::new(self.creation, self.made, switch);
         let face = beside::follow(image, head, line::call_of(words), answer, list, slots);
         if !face.is_nothing() {
-            report::apart(self.board, self.lines, face);
-            return self.stopped();
+            report::apart(rt, self.board, self.lines, face)?;
+            return Ok(self.stopped());
         }
-        self
+        Ok(self)
     }
 }
 

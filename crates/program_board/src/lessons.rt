@@ -6,6 +6,7 @@ use distributor::distributor::DistributorState;
 use operation::operation::Operation;
 use registers::register::AccessWidth;
 use spi::question::Question;
+use std::io;
 
 fn host(d: DistributorState, raw: u32, operation: Operation) -> DistributorState {
     let c = d.change(spi(raw), Change::Operate(operation));
@@ -20,29 +21,29 @@ fn waiting(raw: u32) -> DistributorState {
     d
 }
 
-fn pending(d: DistributorState, raw: u32) {
-    ask(d, raw, Question::Pending);
+fn pending(rt: &impl Print, d: DistributorState, raw: u32) -> io::Result<()> {
+    ask(rt, d, raw, Question::Pending)
 }
 
-fn lessons_1_to_4() {
+fn lessons_1_to_4(rt: &impl Print) -> io::Result<()> {
     // The write's bits run past the table, and 64 waits to be delivered.
-    show::text(b"lesson 1:");
-    let mut d = write(waiting(64), 0x108, AccessWidth::Dword, 0x1ff);
-    read(d, 0x108);
+    show::text(rt, b"lesson 1:")?;
+    let mut d = write(rt, waiting(64), 0x108, AccessWidth::Dword, 0x1ff)?;
+    read(rt, d, 0x108)?;
     // 35 is nobody's, and it waits.
-    show::text(b"\nlesson 2:");
+    show::text(rt, b"\nlesson 2:")?;
     d = waiting(35);
-    read(d, 0x204);
-    write(d, 0x0, AccessWidth::Dword, 2);
-    show::text(b"\nlesson 3:");
+    read(rt, d, 0x204)?;
+    write(rt, d, 0x0, AccessWidth::Dword, 2)?;
+    show::text(rt, b"\nlesson 3:")?;
     d = k();
-    read_byte(d, 0x100);
-    read_byte(d, 0x101);
-    show::text(b"\nlesson 4:");
+    read_byte(rt, d, 0x100)?;
+    read_byte(rt, d, 0x101)?;
+    show::text(rt, b"\nlesson 4:")?;
     d = released(waiting(33));
-    read(d, 0x84);
-    ask(d, 33, Question::Enabled);
-    pending(d, 33);
+    read(rt, d, 0x84)?;
+    ask(rt, d, 33, Question::Enabled)?;
+    pending(rt, d, 33)
 }
 
 fn released(d: DistributorState) -> DistributorState {
@@ -60,22 +61,22 @@ fn high(d: DistributorState) -> DistributorState {
 }
 
 // Whether 33 pends again once the core has finished.
-fn finished(d: DistributorState) {
-    pending(host(d, 33, Operation::FinishInflight), 33);
+fn finished(rt: &impl Print, d: DistributorState) -> io::Result<()> {
+    pending(rt, host(d, 33, Operation::FinishInflight), 33)
 }
 
 // 33, edge-triggered, in flight.
-fn redelivery() {
-    show::text(b"\nlesson 5:");
+fn redelivery(rt: &impl Print) -> io::Result<()> {
+    show::text(rt, b"\nlesson 5:")?;
     let mut d = k();
     d = host(d, 33, Operation::SetTrigger(TriggerMode::Edge));
     d = host(d, 33, Operation::MarkInflight);
     // The line is still high, or rises, while a core has 33 active.
-    finished(high(active(high(d))));
-    finished(high(active(d)));
+    finished(rt, high(active(high(d))))?;
+    finished(rt, high(active(d)))?;
     // The line rises, or a pulse comes, before that.
-    pending(active(high(d)), 33);
-    pending(active(host(d, 33, Operation::Pulse)), 33);
+    pending(rt, active(high(d)), 33)?;
+    pending(rt, active(host(d, 33, Operation::Pulse)), 33)
 }
 
 fn cleared(d: DistributorState, raw: u32) -> DistributorState {
@@ -83,17 +84,17 @@ fn cleared(d: DistributorState, raw: u32) -> DistributorState {
 }
 
 // 33's line rises and this SPI is cleared, in either order.
-fn either_order(raw: u32) {
+fn either_order(rt: &impl Print, raw: u32) -> io::Result<()> {
     let d = waiting(64);
-    pending(cleared(high(d), raw), raw);
-    pending(high(cleared(d, raw)), raw);
+    pending(rt, cleared(high(d), raw), raw)?;
+    pending(rt, high(cleared(d, raw)), raw)
 }
 
-pub fn run() {
-    lessons_1_to_4();
-    redelivery();
-    show::text(b"\nlesson 6:");
-    either_order(33);
-    either_order(64);
-    show::text(b"\n");
+pub fn run(rt: &impl Print) -> io::Result<()> {
+    lessons_1_to_4(rt)?;
+    redelivery(rt)?;
+    show::text(rt, b"\nlesson 6:")?;
+    either_order(rt, 33)?;
+    either_order(rt, 64)?;
+    show::text(rt, b"\n")
 }

@@ -15,6 +15,7 @@ use identifiers::types::SpiId;
 use place::place::CreateAnswer;
 use registers::register::AccessWidth;
 use spi::question::Question;
+use std::io;
 
 mod lessons;
 mod show;
@@ -55,129 +56,142 @@ fn k() -> DistributorState {
     d
 }
 
-fn show_created(c: Created) {
+fn show_created(rt: &impl Print, c: Created) -> io::Result<()> {
     let answer = c.answer;
     match answer {
-        CreateAnswer::Done => show::text(b" made"),
-        CreateAnswer::Refused(f) => show::refusal(f),
+        CreateAnswer::Done => show::text(rt, b" made"),
+        CreateAnswer::Refused(f) => show::refusal(rt, f),
     }
 }
 
-fn ask(d: DistributorState, raw: u32, question: Question) {
-    show::answer(d.ask(spi(raw), question));
+fn ask(rt: &impl Print, d: DistributorState, raw: u32, question: Question) -> io::Result<()> {
+    show::answer(rt, d.ask(spi(raw), question))
 }
 
-fn read(d: DistributorState, offset: u64) {
-    show::read(d.read(offset, AccessWidth::Dword));
+fn read(rt: &impl Print, d: DistributorState, offset: u64) -> io::Result<()> {
+    show::read(rt, d.read(offset, AccessWidth::Dword))
 }
 
-fn read_byte(d: DistributorState, offset: u64) {
-    show::read(d.read(offset, AccessWidth::Byte));
+fn read_byte(rt: &impl Print, d: DistributorState, offset: u64) -> io::Result<()> {
+    show::read(rt, d.read(offset, AccessWidth::Byte))
 }
 
 // A write on K's list of 40 places, each 9 before.
-fn write(d: DistributorState, offset: u64, width: AccessWidth, value: u64) -> DistributorState {
+fn write(
+    rt: &impl Print,
+    d: DistributorState,
+    offset: u64,
+    width: AccessWidth,
+    value: u64,
+) -> io::Result<DistributorState> {
     let mut list = [9u32; 40];
     let w = d.write(offset, width, value, &mut list);
     let answer = w.answer;
-    show::written(answer);
-    show::text(b", list ");
-    show::place(list[0]);
-    show::text(b" ");
-    show::place(list[1]);
-    w.state
+    show::written(rt, answer)?;
+    show::text(rt, b", list ")?;
+    show::place(rt, list[0])?;
+    show::text(rt, b" ")?;
+    show::place(rt, list[1])?;
+    Ok(w.state)
 }
 
-fn cases_1_to_5() {
-    show::text(b"1:");
-    show_created(DistributorState::new(plain(GicV3SpiOwnership::Explicit), 988));
-    show_created(DistributorState::new(plain(GicV3SpiOwnership::Explicit), 989));
+fn cases_1_to_5(rt: &impl Print) -> io::Result<()> {
+    show::text(rt, b"1:")?;
+    show_created(
+        rt,
+        DistributorState::new(plain(GicV3SpiOwnership::Explicit), 988),
+    )?;
+    show_created(
+        rt,
+        DistributorState::new(plain(GicV3SpiOwnership::Explicit), 989),
+    )?;
     let d = k();
-    show::text(b"\n2:");
-    read(d, 0xffe8);
-    read_byte(d, 0xffe8);
-    show::text(b"\n3:");
-    read_byte(d, 0xffe9);
-    read(d, 0x102);
-    show::text(b"\n4:");
-    read(d, 0xffff_ffff_ffff_fffc);
-    show::text(b"\n5:");
-    read(d, 0x4);
+    show::text(rt, b"\n2:")?;
+    read(rt, d, 0xffe8)?;
+    read_byte(rt, d, 0xffe8)?;
+    show::text(rt, b"\n3:")?;
+    read_byte(rt, d, 0xffe9)?;
+    read(rt, d, 0x102)?;
+    show::text(rt, b"\n4:")?;
+    read(rt, d, 0xffff_ffff_ffff_fffc)?;
+    show::text(rt, b"\n5:")?;
+    read(rt, d, 0x4)
 }
 
-fn cases_6_to_9() {
-    show::text(b"\n6:");
-    let mut d = write(k(), 0x108, AccessWidth::Dword, 0x1ff);
-    show::text(b", enabled");
-    read(d, 0x108);
-    show::text(b"\n7:");
-    d = write(k(), 0x17c, AccessWidth::Dword, 0xf000_0000);
-    show::text(b", enabled");
-    read(d, 0x104);
-    read(d, 0x108);
-    show::text(b"\n8:");
-    d = write(k(), 0x6108, AccessWidth::Qword, 0x1_8002_0304);
-    show::read(d.read(0x6108, AccessWidth::Qword));
-    show::text(b"\n9:");
-    d = write(k(), 0x6208, AccessWidth::Qword, 2);
-    show::read(d.read(0x6208, AccessWidth::Qword));
+fn cases_6_to_9(rt: &impl Print) -> io::Result<()> {
+    show::text(rt, b"\n6:")?;
+    let mut d = write(rt, k(), 0x108, AccessWidth::Dword, 0x1ff)?;
+    show::text(rt, b", enabled")?;
+    read(rt, d, 0x108)?;
+    show::text(rt, b"\n7:")?;
+    d = write(rt, k(), 0x17c, AccessWidth::Dword, 0xf000_0000)?;
+    show::text(rt, b", enabled")?;
+    read(rt, d, 0x104)?;
+    read(rt, d, 0x108)?;
+    show::text(rt, b"\n8:")?;
+    d = write(rt, k(), 0x6108, AccessWidth::Qword, 0x1_8002_0304)?;
+    show::read(rt, d.read(0x6108, AccessWidth::Qword))?;
+    show::text(rt, b"\n9:")?;
+    d = write(rt, k(), 0x6208, AccessWidth::Qword, 2)?;
+    show::read(rt, d.read(0x6208, AccessWidth::Qword))
 }
 
-fn cases_10_and_11() {
-    show::text(b"\n10:");
+fn cases_10_and_11(rt: &impl Print) -> io::Result<()> {
+    show::text(rt, b"\n10:")?;
     let mut d = after(set_level(k(), spi(33), true));
-    d = write(d, 0x284, AccessWidth::Dword, 2);
-    show::text(b", 33 pending");
-    ask(d, 33, Question::Pending);
-    show::text(b"\n11:");
+    d = write(rt, d, 0x284, AccessWidth::Dword, 2)?;
+    show::text(rt, b", 33 pending")?;
+    ask(rt, d, 33, Question::Pending)?;
+    show::text(rt, b"\n11:")?;
     d = after(set_enabled(k(), spi(33), true));
     d = after(pulse(d, spi(33)));
     d = after(release_spi_claim(d, spi(33)));
-    write(d, 0x0, AccessWidth::Dword, 2);
+    write(rt, d, 0x0, AccessWidth::Dword, 2)?;
+    Ok(())
 }
 
-fn case_12() {
-    show::text(b"\n12:");
+fn case_12(rt: &impl Print) -> io::Result<()> {
+    show::text(rt, b"\n12:")?;
     let d = made(plain(GicV3SpiOwnership::AllGuestOwned), 988);
     let mut list = [9u32; 988];
     let w = d.write(0x7f8, AccessWidth::Qword, 0x8877_6655_4433_2211, &mut list);
     let answer = w.answer;
-    show::written(answer);
+    show::written(rt, answer)?;
     let d = w.state;
-    show::read(d.read(0x7f8, AccessWidth::Qword));
+    show::read(rt, d.read(0x7f8, AccessWidth::Qword))
 }
 
 // TYPER's id field, in bits 23..19.
-fn id_field(lpi_limit: u32) {
+fn id_field(rt: &impl Print, lpi_limit: u32) -> io::Result<()> {
     let mut config = plain(GicV3SpiOwnership::AllGuestOwned);
     config.its = true;
     config.lpi_limit = lpi_limit;
     match made(config, 0).read(0x4, AccessWidth::Dword) {
         ReadAnswer::Done(v) => {
-            show::text(b" ");
-            show::decimal(v / 0x8_0000 % 32);
+            show::text(rt, b" ")?;
+            show::decimal(rt, v / 0x8_0000 % 32)
         }
-        ReadAnswer::Refused(f) => show::refusal(f),
+        ReadAnswer::Refused(f) => show::refusal(rt, f),
     }
 }
 
-fn run_also() {
-    show::text(b"\nTYPER at 0 and 988:");
-    read(made(plain(GicV3SpiOwnership::Explicit), 0), 0x4);
-    read(made(plain(GicV3SpiOwnership::Explicit), 988), 0x4);
-    show::text(b"\nid field at 65535 and 65536:");
-    id_field(65535);
-    id_field(65536);
-    show::text(b"\nIGROUPR at 0x84:");
-    read(k(), 0x84);
-    show::text(b"\n");
+fn run_also(rt: &impl Print) -> io::Result<()> {
+    show::text(rt, b"\nTYPER at 0 and 988:")?;
+    read(rt, made(plain(GicV3SpiOwnership::Explicit), 0), 0x4)?;
+    read(rt, made(plain(GicV3SpiOwnership::Explicit), 988), 0x4)?;
+    show::text(rt, b"\nid field at 65535 and 65536:")?;
+    id_field(rt, 65535)?;
+    id_field(rt, 65536)?;
+    show::text(rt, b"\nIGROUPR at 0x84:")?;
+    read(rt, k(), 0x84)?;
+    show::text(rt, b"\n")
 }
 
-fn main() {
-    cases_1_to_5();
-    cases_6_to_9();
-    cases_10_and_11();
-    case_12();
-    run_also();
-    lessons::run();
+fn main(rt: HostRuntime) -> io::Result<()> {
+    cases_1_to_5(&rt)?;
+    cases_6_to_9(&rt)?;
+    cases_10_and_11(&rt)?;
+    case_12(&rt)?;
+    run_also(&rt)?;
+    lessons::run(&rt)
 }

@@ -9,9 +9,9 @@ use attributes::attributes::{InterruptState, TriggerMode};
 use identifiers::types::{IntId, IntIdAnswer};
 use interrupt::interrupt::InterruptRecord;
 use lent::lent::{pulse_in_place, pulse_lent, set_level_in_place, set_level_lent};
-use libc::STDOUT_FILENO;
+use std::io;
 
-// Holds the record and lends it to both line calls. Any function that writes `&mut` of a struct is proved by hand, as this is.
+// Holds the record and lends it to both line calls.
 fn falls_then_pulse(start: InterruptRecord) -> InterruptRecord
     ensures { result ≡ line_pulsed (line_to false start) }
 {
@@ -30,30 +30,30 @@ fn handled(intid: IntId) -> InterruptRecord {
         .set_state(InterruptState::Active)
 }
 
-fn print_flag(name: &[u8], flag: bool) {
-    io::write_all(STDOUT_FILENO, name);
-    io::print_decimal(STDOUT_FILENO, flag as u64);
+fn print_flag(rt: &impl Print, name: &[u8], flag: bool) -> io::Result<()> {
+    rt.write_all(name)?;
+    print!(rt; "{}", flag as u64)
 }
 
-fn print_record(when: &[u8], r: InterruptRecord) {
-    io::write_all(STDOUT_FILENO, when);
-    print_flag(b": pending ", r.pending());
-    print_flag(b", active ", r.active());
-    print_flag(b", deliverable ", r.deliverable());
-    io::write_all(STDOUT_FILENO, b"\n");
+fn print_record(rt: &impl Print, when: &[u8], r: InterruptRecord) -> io::Result<()> {
+    rt.write_all(when)?;
+    print_flag(rt, b": pending ", r.pending())?;
+    print_flag(rt, b", active ", r.active())?;
+    print_flag(rt, b", deliverable ", r.deliverable())?;
+    rt.write_all(b"\n")
 }
 
-fn main() {
+fn main(rt: HostRuntime) -> io::Result<()> {
     let IntIdAnswer::Done(intid) = IntId::new(33) else {
-        return;
+        return Ok(());
     };
     let start = handled(intid);
-    print_record(b"handled", start);
-    print_record(b"pulse", pulse_lent(start));
+    print_record(&rt, b"handled", start)?;
+    print_record(&rt, b"pulse", pulse_lent(start))?;
     let fallen = set_level_lent(start, false);
-    print_record(b"line low", fallen);
-    print_record(b"line low, finished", fallen.finish_inflight());
+    print_record(&rt, b"line low", fallen)?;
+    print_record(&rt, b"line low, finished", fallen.finish_inflight())?;
     let both = falls_then_pulse(start);
-    print_record(b"line low, pulse", both);
-    print_record(b"line low, pulse, finished", both.finish_inflight());
+    print_record(&rt, b"line low, pulse", both)?;
+    print_record(&rt, b"line low, pulse, finished", both.finish_inflight())
 }

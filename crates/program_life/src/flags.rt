@@ -2,8 +2,8 @@
 use attributes::attributes::{InterruptState, TriggerMode};
 use identifiers::types::{IntId, SpiId};
 use interrupt::interrupt::InterruptRecord;
-use libc::STDOUT_FILENO;
 use life::life::Life;
+use std::io;
 
 // How many combinations of the flags there are; each is walked with both triggers.
 pub const COUNT: u32 = 64;
@@ -45,29 +45,25 @@ pub fn same(a: Life, b: Life) -> bool {
         & (a.line_asserted == b.line_asserted)
 }
 
-pub fn text(words: &[u8]) {
-    io::write_all(STDOUT_FILENO, words);
+pub fn text(rt: &impl Print, words: &[u8]) -> io::Result<()> {
+    rt.write_all(words)
 }
 
-fn mark(on: bool, letter: &[u8]) {
-    if on {
-        text(letter);
-    } else {
-        text(b"-");
-    }
+fn mark(rt: &impl Print, on: bool, letter: &[u8]) -> io::Result<()> {
+    if on { text(rt, letter) } else { text(rt, b"-") }
 }
 
 // A letter for each flag that is on: enabled, pending, active, in flight, redelivery, line; then the trigger.
-pub fn show(irq: InterruptRecord) {
+pub fn show(rt: &impl Print, irq: InterruptRecord) -> io::Result<()> {
     let life = irq.life();
-    mark(life.enabled, b"e");
-    mark(life.pending, b"p");
-    mark(life.active, b"a");
-    mark(life.inflight, b"f");
-    mark(life.redelivery_pending, b"r");
-    mark(life.line_asserted, b"l");
+    mark(rt, life.enabled, b"e")?;
+    mark(rt, life.pending, b"p")?;
+    mark(rt, life.active, b"a")?;
+    mark(rt, life.inflight, b"f")?;
+    mark(rt, life.redelivery_pending, b"r")?;
+    mark(rt, life.line_asserted, b"l")?;
     match irq.trigger() {
-        TriggerMode::Edge => text(b" edge"),
-        TriggerMode::Level => text(b" level"),
+        TriggerMode::Edge => text(rt, b" edge"),
+        TriggerMode::Level => text(rt, b" level"),
     }
 }

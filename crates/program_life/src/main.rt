@@ -8,27 +8,29 @@ mod flags;
 mod operations;
 
 use attributes::attributes::TriggerMode;
+use std::io;
 
 // Every combination of the flags and a trigger, with every operation.
 const STEPS: u32 = flags::COUNT * 2 * operations::COUNT;
 
 // One operation on a record with the n-th combination. A combination that no record was made with is passed over. That none is
 // missed shows in the lines: each that is led to is walked too.
-fn walk(n: u32, trigger: TriggerMode, k: u32) {
+fn walk(rt: &impl Print, n: u32, trigger: TriggerMode, k: u32) -> io::Result<()> {
     let wanted = flags::nth(n);
     let from = flags::made(wanted, trigger);
     if flags::same(wanted, from.life()) {
         let action = operations::nth(k);
-        flags::show(from);
-        flags::text(b": ");
-        action.show();
-        flags::text(b": ");
-        flags::show(action.on(from));
-        flags::text(b"\n");
+        flags::show(rt, from)?;
+        flags::text(rt, b": ")?;
+        action.show(rt)?;
+        flags::text(rt, b": ")?;
+        flags::show(rt, action.on(from))?;
+        flags::text(rt, b"\n")?;
     }
+    Ok(())
 }
 
-fn main() {
+fn main(rt: HostRuntime) -> io::Result<()> {
     let mut i = 0;
     while i < STEPS {
         let n = i / operations::COUNT;
@@ -37,7 +39,8 @@ fn main() {
         } else {
             TriggerMode::Level
         };
-        walk(n / 2, trigger, i % operations::COUNT);
+        walk(&rt, n / 2, trigger, i % operations::COUNT)?;
         i += 1;
     }
+    Ok(())
 }

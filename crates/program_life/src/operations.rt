@@ -3,6 +3,7 @@ use crate::flags::text;
 use attributes::attributes::{GicAffinity, InterruptState, Priority, TriggerMode};
 use interrupt::interrupt::InterruptRecord;
 use operation::operation::{Operation, apply};
+use std::io;
 
 // How many there are.
 pub const COUNT: u32 = 30;
@@ -28,11 +29,11 @@ impl Action {
     }
 
     // By its name in the code, and with its argument where a flag may rest on it.
-    pub fn show(self) {
+    pub fn show(self, rt: &impl Print) -> io::Result<()> {
         match self {
-            Action::Operate(operation) => show(operation),
-            Action::SynchronizeInflight(s) => state(b"synchronize_inflight", s),
-            Action::SetCpuTargetMask(_) => text(b"set_cpu_target_mask"),
+            Action::Operate(operation) => show(rt, operation),
+            Action::SynchronizeInflight(s) => state(rt, b"synchronize_inflight", s),
+            Action::SetCpuTargetMask(_) => text(rt, b"set_cpu_target_mask"),
         }
     }
 }
@@ -78,49 +79,45 @@ fn operation(k: u32) -> Operation {
     }
 }
 
-fn flag(name: &[u8], on: bool) {
-    text(name);
-    if on {
-        text(b" 1");
-    } else {
-        text(b" 0");
-    }
+fn flag(rt: &impl Print, name: &[u8], on: bool) -> io::Result<()> {
+    text(rt, name)?;
+    if on { text(rt, b" 1") } else { text(rt, b" 0") }
 }
 
-fn state(name: &[u8], state: InterruptState) {
-    text(name);
+fn state(rt: &impl Print, name: &[u8], state: InterruptState) -> io::Result<()> {
+    text(rt, name)?;
     match state {
-        InterruptState::Inactive => text(b" inactive"),
-        InterruptState::Pending => text(b" pending"),
-        InterruptState::Active => text(b" active"),
-        InterruptState::ActivePending => text(b" active-pending"),
+        InterruptState::Inactive => text(rt, b" inactive"),
+        InterruptState::Pending => text(rt, b" pending"),
+        InterruptState::Active => text(rt, b" active"),
+        InterruptState::ActivePending => text(rt, b" active-pending"),
     }
 }
 
-fn trigger(trigger: TriggerMode) {
+fn trigger(rt: &impl Print, trigger: TriggerMode) -> io::Result<()> {
     match trigger {
-        TriggerMode::Edge => text(b"set_trigger edge"),
-        TriggerMode::Level => text(b"set_trigger level"),
+        TriggerMode::Edge => text(rt, b"set_trigger edge"),
+        TriggerMode::Level => text(rt, b"set_trigger level"),
     }
 }
 
-fn show(operation: Operation) {
+fn show(rt: &impl Print, operation: Operation) -> io::Result<()> {
     match operation {
-        Operation::SetEnabled(on) => flag(b"set_enabled", on),
-        Operation::SetPending(on) => flag(b"set_pending", on),
-        Operation::SetActive(on) => flag(b"set_active", on),
-        Operation::SetState(s) => state(b"set_state", s),
-        Operation::ClearDeliveryState => text(b"clear_delivery_state"),
-        Operation::MarkInflight => text(b"mark_inflight"),
-        Operation::CancelInflight => text(b"cancel_inflight"),
-        Operation::FinishInflight => text(b"finish_inflight"),
-        Operation::DeactivateInflight(pending) => flag(b"deactivate_inflight", pending),
-        Operation::SetPriority(_) => text(b"set_priority"),
-        Operation::SetTrigger(t) => trigger(t),
-        Operation::SetRoute(_) => text(b"set_route"),
-        Operation::ClearRoute => text(b"clear_route"),
-        Operation::SetLevel(high) => flag(b"set_level", high),
-        Operation::Pulse => text(b"pulse"),
-        Operation::Complete => text(b"complete"),
+        Operation::SetEnabled(on) => flag(rt, b"set_enabled", on),
+        Operation::SetPending(on) => flag(rt, b"set_pending", on),
+        Operation::SetActive(on) => flag(rt, b"set_active", on),
+        Operation::SetState(s) => state(rt, b"set_state", s),
+        Operation::ClearDeliveryState => text(rt, b"clear_delivery_state"),
+        Operation::MarkInflight => text(rt, b"mark_inflight"),
+        Operation::CancelInflight => text(rt, b"cancel_inflight"),
+        Operation::FinishInflight => text(rt, b"finish_inflight"),
+        Operation::DeactivateInflight(pending) => flag(rt, b"deactivate_inflight", pending),
+        Operation::SetPriority(_) => text(rt, b"set_priority"),
+        Operation::SetTrigger(t) => trigger(rt, t),
+        Operation::SetRoute(_) => text(rt, b"set_route"),
+        Operation::ClearRoute => text(rt, b"clear_route"),
+        Operation::SetLevel(high) => flag(rt, b"set_level", high),
+        Operation::Pulse => text(rt, b"pulse"),
+        Operation::Complete => text(rt, b"complete"),
     }
 }
