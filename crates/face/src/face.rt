@@ -1,4 +1,4 @@
-// The functions that C and Rust call. include/dhunglebi.h declares them.
+// The calls on an image. Crate face_c exports them to C and Rust, and include/dhunglebi.h declares them.
 ghost use Rattle.std.specs.Prelude.{◌≡◌, not, [], eqb};
 ghost use Rattle.attributes.specs.Affinity.{from_mpidr};
 ghost use Rattle.image_model.specs.Face.{read, write, host, seen};
@@ -11,8 +11,7 @@ use attributes::attributes::GicAffinity;
 use changes::change::Change;
 use operation::operation::Operation;
 
-#[unsafe(no_mangle)]
-pub extern "C" fn dhunglebi_create(
+pub fn dhunglebi_create(
     image: &mut [u8],
     count: u32,
     ownership: u32,
@@ -28,8 +27,7 @@ pub extern "C" fn dhunglebi_create(
     t.number
 }
 
-#[unsafe(no_mangle)]
-pub extern "C" fn dhunglebi_read(image: &[u8], offset: u64, width: u32, out: &mut u64) -> u32
+pub fn dhunglebi_read(image: &[u8], offset: u64, width: u32, out: &mut u64) -> u32
     ensures { record { number = result; out = out.new } ≡ (seen (read offset width) image.now []).told }
 {
     let t = read_image(image, offset, width);
@@ -37,8 +35,7 @@ pub extern "C" fn dhunglebi_read(image: &[u8], offset: u64, width: u32, out: &mu
     t.number
 }
 
-#[unsafe(no_mangle)]
-pub extern "C" fn dhunglebi_write(
+pub fn dhunglebi_write(
     image: &mut [u8],
     list: &mut [u8],
     offset: u64,
@@ -53,8 +50,7 @@ pub extern "C" fn dhunglebi_write(
     t.number
 }
 
-#[unsafe(no_mangle)]
-pub extern "C" fn dhunglebi_claim_software(image: &mut [u8], intid: u32, out: &mut u64) -> u32
+pub fn dhunglebi_claim_software(image: &mut [u8], intid: u32, out: &mut u64) -> u32
     ensures { record { told = record { number = result; out = out.new }; image = image.new; list = [] } ≡ seen (host Change.Claim intid) image.old [] }
 {
     let t = change_image(image, intid, Change::Claim);
@@ -62,13 +58,7 @@ pub extern "C" fn dhunglebi_claim_software(image: &mut [u8], intid: u32, out: &m
     t.number
 }
 
-#[unsafe(no_mangle)]
-pub extern "C" fn dhunglebi_claim_physical(
-    image: &mut [u8],
-    intid: u32,
-    affinity: u64,
-    out: &mut u64,
-) -> u32
+pub fn dhunglebi_claim_physical(image: &mut [u8], intid: u32, affinity: u64, out: &mut u64) -> u32
     ensures { record { told = record { number = result; out = out.new }; image = image.new; list = [] } ≡ seen (host (Change.ClaimTo (from_mpidr affinity)) intid) image.old [] }
 {
     let to = GicAffinity::from_mpidr(affinity);
@@ -77,8 +67,7 @@ pub extern "C" fn dhunglebi_claim_physical(
     t.number
 }
 
-#[unsafe(no_mangle)]
-pub extern "C" fn dhunglebi_release(image: &mut [u8], intid: u32, out: &mut u64) -> u32
+pub fn dhunglebi_release(image: &mut [u8], intid: u32, out: &mut u64) -> u32
     ensures { record { told = record { number = result; out = out.new }; image = image.new; list = [] } ≡ seen (host Change.Release intid) image.old [] }
 {
     let t = change_image(image, intid, Change::Release);
@@ -86,13 +75,7 @@ pub extern "C" fn dhunglebi_release(image: &mut [u8], intid: u32, out: &mut u64)
     t.number
 }
 
-#[unsafe(no_mangle)]
-pub extern "C" fn dhunglebi_set_level(
-    image: &mut [u8],
-    intid: u32,
-    level: u32,
-    out: &mut u64,
-) -> u32
+pub fn dhunglebi_set_level(image: &mut [u8], intid: u32, level: u32, out: &mut u64) -> u32
     ensures { record { told = record { number = result; out = out.new }; image = image.new; list = [] } ≡ seen (host (Change.Operate (Operation.SetLevel (not (eqb level 0)))) intid) image.old [] }
 {
     let t = change_image(
@@ -104,8 +87,7 @@ pub extern "C" fn dhunglebi_set_level(
     t.number
 }
 
-#[unsafe(no_mangle)]
-pub extern "C" fn dhunglebi_pulse(image: &mut [u8], intid: u32, out: &mut u64) -> u32
+pub fn dhunglebi_pulse(image: &mut [u8], intid: u32, out: &mut u64) -> u32
     ensures { record { told = record { number = result; out = out.new }; image = image.new; list = [] } ≡ seen (host (Change.Operate Operation.Pulse) intid) image.old [] }
 {
     let t = change_image(image, intid, Change::Operate(Operation::Pulse));

@@ -2,4 +2,3 @@
 // of the calls that an SPI is what replaying the calls that name it gives, that calls which name nothing in common may
 // change places, that a refused call changes nothing, and that a guest reaches nothing which it does not own.
 #![tactic(auto)]
-
