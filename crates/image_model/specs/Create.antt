@@ -1,5 +1,5 @@
 -- What `create` promises. It never looks at what the image held.
-use Rattle.std.specs.Prelude.{ℕ, ◌+◌, ◌*◌, ◌/◌, ◌%◌, Bool, ◌&&◌, cond, List, [], leb, eqb, length}
+use Rattle.std.specs.Prelude.{ℕ, ◌+◌, ◌*◌, ◌&&◌, cond, List, [], leb, eqb, length}
 use Rattle.identifiers.specs.Answer.{done}
 use Rattle.place.specs.Table.{capacity, create_answer}
 use Rattle.controller.specs.declared.controller.ControllerConfig.{ControllerConfig}

@@ -1,5 +1,5 @@
 -- Laws of a creation: what it is refused, in its order, and every byte of the image that it makes. What the image held is in none of them.
-use Rattle.std.specs.Prelude.{ℕ, ◌+◌, ◌*◌, ◌/◌, ◌%◌, ◌^◌, ◌≤◌, ◌<◌, ◌≡◌, refl, ◌≢◌, ◌⊎◌, Bool, false, ◌&&◌, List, [], ◌∷◌, ◌++◌, leb, eqb, length, replicate}
+use Rattle.std.specs.Prelude.{ℕ, ◌+◌, ◌*◌, ◌/◌, ◌%◌, ◌^◌, ◌≤◌, ◌<◌, ◌≡◌, ◌≢◌, ◌⊎◌, false, ◌&&◌, List, [], ◌∷◌, ◌++◌, leb, eqb, length, replicate}
 use Rattle.std.proofs.Common.{sym, ap, ◌∙◌, ⊎_elim, arith, le-leb, eq-eqb, ne_eqb}
 use Rattle.std.proofs.Math.Bool.{and-false}
 use Rattle.std.proofs.lemmas.Bool.{lt-leb}
@@ -17,7 +17,7 @@ use Rattle.image.specs.BitLaws.{flagged, flag_at, read_bit, flags_of}
 use Rattle.image.specs.Kept.{word_of}
 use Rattle.image.specs.KeptLaws.{word-fresh}
 use Rattle.image.specs.Header.{header_words}
-use Rattle.image.specs.HeaderLaws.{Fitting, owner-set, header_bytes}
+use Rattle.image.specs.HeaderLaws.{owner-set, header_bytes}
 use Rattle.image.specs.Meaning.{image_of}
 use Rattle.image.specs.MeaningLaws.{slot_at, tabulate_agree}
 use Rattle.image_model.specs.Face.{refuses}

@@ -1,17 +1,15 @@
 -- What the face promises. For any bytes, lengths and numbers: what a call tells, and every byte of the image and of the list.
-use Rattle.std.specs.Prelude.{ℕ, zero, suc, ◌+◌, ◌-◌, ◌*◌, ◌/◌, Bool, true, false, not, ◌&&◌, ◌||◌, cond, List, [], ◌∷◌, ◌++◌, leb, eqb, length}
+use Rattle.std.specs.Prelude.{ℕ, zero, suc, ◌+◌, ◌-◌, ◌/◌, Bool, true, not, ◌&&◌, ◌||◌, cond, List, ◌++◌, length}
 use Rattle.theory.specs.Lists.{tabulate, laid}
-use Rattle.place.specs.Table.{capacity, create_answer}
-use Rattle.controller.specs.declared.controller.ControllerConfig.{ControllerConfig}
 use Rattle.registers.specs.declared.register.AccessWidth.{AccessWidth}
 use Rattle.changes.specs.declared.change.Change.{Change}
 use Rattle.slot.specs.BankRule.{slot_of}
-use Rattle.model.specs.Calls.{Distributor, Call, size, created, step, reply}
+use Rattle.model.specs.Calls.{Distributor, Call, size, step, reply}
 use Rattle.order.specs.Names.{spi, names}
 use Rattle.image.specs.Bytes.{flat}
 use Rattle.image.specs.Kept.{good_word, word_of}
 use Rattle.image.specs.Header.{good_image, header_words}
-use Rattle.image.specs.Meaning.{record_at, meaning, image_of}
+use Rattle.image.specs.Meaning.{record_at, meaning}
 use Rattle.image_model.specs.declared.told.Told.{Told}
 use Rattle.image_model.specs.declared.told.WidthAnswer.{WidthAnswer}
 use Rattle.image_model.specs.declared.told.WidthAnswer.TheVariants.{Of, No}
