@@ -1,6 +1,6 @@
 -- The loops that test and read the fields of a bank from the records of an image, from the highest INTID down: one field more.
 use Prim.Native.Nat.{ℕ, zero, suc, ◌+◌, ◌-◌, ◌*◌, ◌%◌, ◌^◌, ◌≤◌, ◌<◌, min, max}
-use mathlib.Core.Path.{◌≡◌, refl, sym, ap, ◌∙◌}
+use mathlib.Core.Path.{◌≡◌, refl, ap, ◌∙◌}
 use mathlib.Core.Bool.{Bool, true, false, not}
 use mathlib.Core.List.{List}
 use native.Mathlib.Nat.{pow-zero}
@@ -15,7 +15,6 @@ use Rattle.bank.specs.Banks.{bits_of, packed}
 use Rattle.bank.proofs.Digits.{below_same}
 use Rattle.slot.specs.declared.slot.Slot.{Slot}
 use Rattle.slot.specs.Slots.{showing}
-use Rattle.slot.specs.NoSlot.{no_slot}
 use Rattle.slot.specs.BankRule.{covers, shown_at, bank_value}
 use Rattle.model.proofs.Reading.{room, packed_more, packed_room, shows, all_read}
 use Rattle.model.proofs.Covering.{covers_yes, covers-inside}

@@ -1,6 +1,6 @@
 -- The guest's accesses on an image: what is seen of them.
 use Prim.Native.Nat.{ℕ, ◌+◌, ◌-◌, ◌/◌, ◌≤◌, ◌<◌}
-use mathlib.Core.Path.{◌≡◌, refl, sym, ap, subst⁻¹, ◌∙◌}
+use mathlib.Core.Path.{◌≡◌, refl, sym, ap, ◌∙◌}
 use mathlib.Core.Bool.{Bool, true, false, ◌&&◌, cond}
 use mathlib.Core.List.{List, [], ◌∷◌}
 use mir.Val.{bool_byte}
@@ -8,9 +8,8 @@ use native.Mathlib.Omega.{arith}
 use lib.ListN.{length, get_or, set}
 use Rattle.theory.specs.Lists.{map_at, laid, passing}
 use Rattle.identifiers.specs.Answer.{Answer, done, unless}
-use Rattle.place.specs.Table.{capacity, table_size, in_table}
+use Rattle.place.specs.Table.{capacity, table_size}
 use Rattle.place.specs.TableLaws.{size-asked, has}
-use Rattle.controller.specs.declared.controller.ControllerConfig.{ControllerConfig}
 use Rattle.controller.specs.Modes.{explicit}
 use Rattle.controller.specs.Identity.{switch_bit}
 use Rattle.bank.specs.declared.bank.Bank.{Bank}
@@ -18,7 +17,7 @@ use Rattle.bank.specs.declared.bank.Beyond.{Beyond}
 use Rattle.bank.specs.Banks.{acts, field, first_of, told_beyond, lists_unless}
 use Rattle.registers.specs.declared.register.AccessWidth.{AccessWidth}
 use Rattle.registers.specs.declared.register.Access.{Access}
-use Rattle.registers.specs.declared.register.Access.TheVariants.{To, Refused}
+use Rattle.registers.specs.declared.register.Access.TheVariants.{To}
 use Rattle.registers.specs.declared.register.Register.TheVariants.{Ctlr, Fields}
 use Rattle.registers.specs.declared.register.Direction.TheVariants.{Reading}
 use Rattle.decoding.specs.Decoding.{decode, write_access}
@@ -29,12 +28,11 @@ use Rattle.slot.specs.declared.slot.Slot.{Slot}
 use Rattle.slot.specs.Slots.{field_written}
 use Rattle.slot.specs.NoSlot.{no_slot}
 use Rattle.slot.specs.BankRule.{slot_of, covers, bank_value, bank_slot, candidate, read_beyond, write_beyond}
-use Rattle.model.specs.Calls.{Distributor, Call, Reply, size, deliverable_at, written_at, switched, read_reply, write_reply, after_write, listing, listing_unless, reply, step}
+use Rattle.model.specs.Calls.{Distributor, Call, Reply, deliverable_at, switched, read_reply, write_reply, after_write, listing_unless, reply, step}
 use Rattle.model.proofs.Beyond.{unless_beyond, listing_beyond}
 use Rattle.order.specs.Names.{spi, names, read_names, write_names}
 use Rattle.image.specs.Bytes.{flat, Bytes}
 use Rattle.image.specs.Kept.{good_word, word_of}
-use Rattle.image.specs.declared.header.Header.{Header}
 use Rattle.image.specs.Header.{good_image, header_of}
 use Rattle.image.specs.HeaderLaws.{fitting_image}
 use Rattle.image.specs.Meaning.{record_at, meant_at, table, meaning}
@@ -45,10 +43,10 @@ use Rattle.face.specs.declared.sweeps.FieldsRead.TheVariants.{Value, Bad}
 use Rattle.image_model.specs.Told.{told, bad_image, bad_width, width_answer}
 use Rattle.image_model.specs.Face.{Seen, read, write, seen, answers, good_where, rewritten, refuses}
 use Rattle.face.specs.Sweeps.{Put, LaidOut, read_answer}
-use Rattle.face.specs.Guest.{Headed, N, read_told, write_seen}
+use Rattle.face.specs.Guest.{N, read_told, write_seen}
 use Rattle.face.proofs.Naming.{written}
 use Rattle.image_model.specs.GoodLaws.{good_none, good_agree, good-at}
-use Rattle.face.proofs.Rewriting.{Heads, Stand, stand_meant, kept_rewrites, switch_rewrites, put_rewrites}
+use Rattle.face.proofs.Rewriting.{Stand, stand_meant, kept_rewrites, switch_rewrites, put_rewrites}
 
 -- what a loop that reads found
 found_value : (g : Bool) (v w : ℕ) → Value v ≡ read_answer g w → (g ≡ true) × (v ≡ w)

@@ -14,11 +14,10 @@ use Rattle.theory.specs.Bools.{both}
 use Rattle.place.specs.Table.{capacity}
 use Rattle.bank.specs.declared.bank.Bank.{Bank}
 use Rattle.bank.specs.Banks.{acts, field}
-use Rattle.ownership.specs.Owned.{owned}
 use Rattle.slot.specs.declared.slot.Slot.{Slot}
 use Rattle.slot.specs.Slots.{field_written, field_listed}
 use Rattle.slot.specs.NoSlot.{no_slot}
-use Rattle.slot.specs.BankRule.{slot_of, covers, candidate}
+use Rattle.slot.specs.BankRule.{covers, candidate}
 use Rattle.slot.specs.BankRuleLaws.{candidate_in}
 use Rattle.image.specs.Bytes.{bytes_of}
 use Rattle.image.specs.Kept.{good_word, slot_in, word_of}

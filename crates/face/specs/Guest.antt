@@ -1,11 +1,11 @@
 -- What the parts of a read and of a write promise, for an access that is decoded already.
-use Rattle.std.specs.Prelude.{ℕ, ◌/◌, ◌≡◌, Bool, true, cond, List}
+use Rattle.std.specs.Prelude.{ℕ, ◌/◌, ◌≡◌, true, cond, List}
 use Rattle.theory.specs.Lists.{laid}
 use Rattle.registers.specs.declared.register.Access.{Access}
 use Rattle.registers.specs.declared.register.AccessWidth.{AccessWidth}
 use Rattle.registers.specs.declared.register.Direction.TheVariants.{Reading}
 use Rattle.decoding.specs.Decoding.{decode, write_access}
-use Rattle.model.specs.Calls.{Distributor, size, read_reply, write_reply, after_write}
+use Rattle.model.specs.Calls.{size, read_reply, write_reply, after_write}
 use Rattle.order.specs.Names.{spi, read_names, write_names}
 use Rattle.image.specs.declared.header.Header.{Header}
 use Rattle.image.specs.Bytes.{flat}
