@@ -14,8 +14,6 @@ use Rattle.theory.specs.MapAtLaws.{map_at_still}
 use Rattle.identifiers.specs.Answer as told
 use Rattle.identifiers.specs.Answer.{done, refused, within, told_refusal, told_spi, id_answer}
 use Rattle.identifiers.specs.declared.error.Refusal.{Refusal}
-use Rattle.identifiers.specs.declared.error.Refusal.TheVariants.{InvalidIntId}
-use Rattle.identifiers.specs.declared.types.SpiId.{SpiId}
 use Rattle.identifiers.specs.declared.types.SpiIdAnswer.{SpiIdAnswer}
 use Rattle.place.specs.Table.{create_answer, created_count, table_size, in_table}
 use Rattle.place.specs.TableLaws.{in_range}
@@ -25,39 +23,24 @@ use Rattle.registers.specs.declared.register.AccessWidth.{AccessWidth}
 use Rattle.registers.specs.declared.register.Direction.TheVariants.{Reading}
 use Rattle.decoding.specs.Decoding.{decode}
 use Rattle.slot.specs.declared.slot.Slot.{Slot}
-use Rattle.slot.specs.BankRule.{slot_of}
 use Rattle.changes.specs.declared.change.Change.{Change}
 use Rattle.spi.specs.declared.change.ChangeAnswer.{ChangeAnswer}
-use Rattle.spi.specs.declared.question.SlotAnswer.{SlotAnswer}
-use Rattle.spi.specs.declared.question.QuestionAnswer.{QuestionAnswer}
-use Rattle.spi.specs.ChangeAnswers.{told_change}
-use Rattle.spi.specs.Questions.{value_of, told_value, question_answer}
 use Rattle.spi.specs.declared.question.Question.{Question}
-use Rattle.model.specs.Calls.{Distributor, Call, create, read, write, is_switched_on, rollback, change, ask, Reply, Outcome, outcome, size, created, reply, step}
+use Rattle.model.specs.Calls.{Distributor, Call, create, read, write, is_switched_on, rollback, change, ask, Reply, Outcome, outcome, created, reply, step}
 use Rattle.model.specs.Replies.{candidates_fit}
 use Rattle.distributor.specs.declared.distributor.DistributorState.{DistributorState}
-use Rattle.distributor.specs.declared.host.Changed.{Changed}
 use Rattle.distributor.specs.Model.{model_of, switch_reply}
-use Rattle.distributor.specs.Host.{slot_answer, ResultOf}
 use Rattle.distributor.proofs.Hosting.{changed_out}
 use Rattle.harness_numbers.specs.declared.answer.Answer.{Answer}
 use Rattle.harness_numbers.specs.declared.call.Call as code
 use Rattle.harness_numbers.specs.declared.call.Family.{Family}
 use Rattle.harness_numbers.specs.Numbers as numbered
 use Rattle.harness_numbers.specs.Numbers.{family_of, meaning_of, call_of, numbers, valued, asked, numbers_of}
-use Rattle.harness_numbers.specs.Values.{seen_question, value_asked}
 use Rattle.harness_calls.specs.declared.run.Ran.{Ran}
 use Rattle.harness_calls.specs.Ran.{after, Performed, RanAs}
 use Rattle.harness_calls.specs.CodeRuns.{read_unlisted}
 
 -- ---- the makers of SPI identifiers, and the table
-
-pub spi-given : (raw : ℕ) (s : SpiId) → told_spi (SpiIdAnswer.Done s) ≡ id_answer 32 1020 raw → s.0 ≡ raw
-spi-given raw s h = go (within 32 1020 raw) h
-  where
-    go : (t : Bool) → done (s.0 ∷ []) ≡ cond t (done (raw ∷ [])) (refused 1 (raw ∷ [])) → s.0 ≡ raw
-    go true e = cc
-    go false e = cc
 
 -- a number that is no SPI's is in no table
 pub spi_refused : (count raw : ℕ) (f : Refusal) → told_spi (SpiIdAnswer.Refused f) ≡ id_answer 32 1020 raw
@@ -109,12 +92,6 @@ module _ (d : DistributorState) (raw : ℕ) where
     abbrev Done : Ran → Type 0
     Done r = (model_of r.state ≡ step (change h raw) D) × (r.answer ≡ valued (reply (change h raw) D).answer)
 
-    pub changed-spi : (s : SpiId) (x : Changed) (r : Ran) → s.0 ≡ raw → ResultOf (change h s.0) d x → r ≡ of x.state (valued (told_change x.answer)) → Done r
-    changed-spi s x r e k p = (
-      ap (λ (y : Ran). model_of y.state) p ∙ k.0 ∙ ap (λ (n : ℕ). step (change h n) D) e,
-      ap (λ (y : Ran). y.answer) p ∙ ap (λ (y : Reply). valued y.answer) k.1 ∙ ap (λ (n : ℕ). valued (reply (change h n) D).answer) e,
-    )
-
     pub unchanged_spi : (f : Refusal) (r : Ran) → told_spi (SpiIdAnswer.Refused f) ≡ id_answer 32 1020 raw → r ≡ of d (valued (told_refusal f)) → Done r
     unchanged_spi f r e p =
         let o = spi_refused d.spi_count raw f e in
@@ -124,14 +101,6 @@ module _ (d : DistributorState) (raw : ℕ) where
         )
 
   module _ (q : Question) where
-    seen-asked : (t : Bool) (s : Slot) (n : ℕ) → seen_question (question_answer q (cond t (SlotAnswer.Done s) (SlotAnswer.Refused (InvalidIntId n)))) ≡ asked q (cond t (done (told_value (value_of q s))) (refused 1 (n ∷ [])))
-    seen-asked true s n = value_asked q s
-    seen-asked false s n = refl
-
-    pub asked-spi : (s : SpiId) (x : QuestionAnswer) → s.0 ≡ raw → x ≡ question_answer q (slot_answer D s.0) → {a : Answer} → a ≡ seen_question x → a ≡ asked q (reply (ask q raw) D).answer
-    unfolding reply
-    asked-spi s x e k p = p ∙ ap seen_question (k ∙ ap (λ (n : ℕ). question_answer q (slot_answer D n)) e) ∙ seen-asked (in_table (size D) raw) (slot_of d.slots raw) raw
-
     pub unasked_spi : (f : Refusal) → told_spi (SpiIdAnswer.Refused f) ≡ id_answer 32 1020 raw → {a : Answer} → a ≡ valued (told_refusal f) → a ≡ asked q (reply (ask q raw) D).answer
     unfolding reply
     unasked_spi f e p = let o = spi_refused d.spi_count raw f e in p ∙ ap valued o.1 ∙ (rw o.0)

@@ -1,0 +1,9 @@
+-- A number that is no SPI's is in no table, and the definition refuses it too.
+use Rattle.std.proofs.Common.{ap, ◌∙◌}
+use Rattle.harness_calls.proofs.Performing.{of, unchanged_spi}
+use Rattle.harness_calls.proofs.run.change_spi.Goals as goal
+
+pub returns-in-Refused : goal.returns-in-Refused
+returns-in-Refused c =
+    let a = c.args in
+    unchanged_spi a.d a.raw a.what c.in-Refused.refusal c.kept-in-Refused.result c.in-Refused.ensures (c.kept-in-Refused.ensures ∙ ap (of a.d) c.refused.ensures)
