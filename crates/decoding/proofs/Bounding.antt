@@ -24,7 +24,7 @@ use Rattle.registers.specs.MapLaws.{between}
 use Rattle.registers.proofs.Rows.{every, sized}
 use Rattle.registers.proofs.Widths.{bytes_range}
 use Rattle.decoding.specs.Decoding.{legal, decode}
-use Rattle.decoding.specs.RefusalLaws.{legal_when}
+use Rattle.decoding.proofs.RefusalLaws.{legal_when}
 use Rattle.decoding.specs.Bounds.{Bounded, Whole}
 
 fields_bounded : (b : Bank) (at : ℕ) (w : AccessWidth) → at < 0x2000 → Bounded (Fields b (at * 8 / bits_of b) (bytes_of w * 8 / bits_of b))

@@ -1,4 +1,3 @@
 pub mod Decoding
 pub mod Bounds
 pub mod WidthLaws
-pub mod RefusalLaws

@@ -26,10 +26,12 @@ use Rattle.registers.specs.declared.register.Access.{Access}
 use Rattle.registers.specs.declared.register.Access.TheVariants.{To, Refused}
 use Rattle.registers.specs.Registers.{bytes_of, map, lookup}
 use Rattle.registers.specs.MapLaws.{flag_bank}
-use Rattle.registers.specs.FrameLaws.{words, in_words, needs_another, reached, width_decides}
-use Rattle.registers.specs.FrameMap.{register_there, register_there_lem, flags_there, ipriorityr_there, icfgr_there}
+use Rattle.registers.specs.FrameLaws.{words, in_words, needs_another, reached}
+use Rattle.registers.specs.FrameMap.{register_there, flags_there, ipriorityr_there, icfgr_there}
+use Rattle.registers.proofs.FrameLaws.{width_decides}
+use Rattle.registers.proofs.FrameMap.{register_there_lem}
 use Rattle.decoding.specs.Decoding.{legal, decode}
-use Rattle.decoding.specs.RefusalLaws.{decoded}
+use Rattle.decoding.proofs.RefusalLaws.{decoded}
 use Rattle.slot.specs.declared.slot.Slot.{Slot}
 use Rattle.slot.specs.BankRule.{slot_of, read_beyond, write_beyond}
 use Rattle.changes.specs.declared.change.Change.{Change}

@@ -1,2 +1,4 @@
 pub mod Rows
 pub mod Widths
+pub mod FrameLaws
+pub mod FrameMap

@@ -1,5 +1,5 @@
 -- The first row that holds the offset decides, and the rows that were passed over do not count.
-use Rattle.std.proofs.Common.{◌≡◌, sym, ◌∙◌, add-one, arith}
+use Rattle.std.proofs.Common.{sym, ◌∙◌, add-one, arith}
 use Rattle.registers.proofs.Rows.{row_decides, row_passed}
 use Rattle.registers.proofs.register.find.Goals as goal
 

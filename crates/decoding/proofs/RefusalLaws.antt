@@ -15,8 +15,9 @@ use Rattle.registers.specs.declared.register.Direction.TheVariants.{Writing}
 use Rattle.registers.specs.declared.register.Register.TheVariants.{Reserved}
 use Rattle.registers.specs.declared.register.Access.TheVariants.{To, Refused}
 use Rattle.registers.specs.Registers.{bytes_of, map, lookup}
-use Rattle.registers.specs.FrameLaws.{is_register, needs_another, reached, by_width, width_decides}
-use Rattle.registers.specs.FrameLaws as frame-laws
+use Rattle.registers.specs.FrameLaws.{is_register, needs_another, reached, by_width}
+use Rattle.registers.proofs.FrameLaws.{width_decides}
+use Rattle.registers.proofs.FrameLaws as frame-laws
 use Rattle.decoding.specs.Decoding.{legal, decode, write_access}
 
 -- an access is legal when it ends within the frame and its offset is a multiple of its width
