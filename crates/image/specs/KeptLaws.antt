@@ -33,7 +33,8 @@ use Rattle.changes.specs.Changes.{happens, ownership_after, record_after}
 use Rattle.slot.specs.declared.slot.Slot.{Slot}
 use Rattle.slot.specs.Effects.{written}
 use Rattle.slot.specs.Slots.{fresh_spi, field_written, changed}
-use Rattle.slot.specs.SettingsLaws.{TypedChange, zero_bytes, Stays, field_keeps, change_keeps}
+use Rattle.slot.specs.SettingsLaws.{TypedChange, zero_bytes, Stays}
+use Rattle.slot.proofs.SettingsLaws.{field_keeps, change_keeps}
 use Rattle.spi.specs.QuestionLaws.{record_intid, effect_intid}
 use Rattle.image.specs.Bytes.{byte_of, bytes_of}
 use Rattle.image.specs.ByteLaws.{bytes_listed}

@@ -35,7 +35,7 @@ use Rattle.slot.specs.Slots.{showing, field_written, field_listed}
 use Rattle.slot.specs.NoSlot.{no_slot}
 use Rattle.slot.specs.BankRule.{slot_of, covers, shown_at, bank_value, bank_slot, bank_candidates, read_beyond}
 use Rattle.slot.specs.Guest.{shows_then, can_list, reads_deliverable}
-use Rattle.slot.specs.GuestLaws.{read_after_write, unowned_ignores, listed_exactly}
+use Rattle.slot.proofs.GuestLaws.{read_after_write, unowned_ignores, listed_exactly}
 use Rattle.model.specs.Calls.{Distributor, Call, read, write, plain, size, written_at, switched, slot_after, step, after_write, deliverable_at, read_reply, write_reply, reply}
 use Rattle.model.specs.Typed.{Typed}
 use Rattle.model.specs.ReadLaws.{shown_at_fits}

@@ -21,7 +21,8 @@ use Rattle.slot.specs.declared.slot.Slot.{Slot}
 use Rattle.slot.specs.Slots.{fresh_spi}
 use Rattle.slot.specs.NoSlot.{no_slot}
 use Rattle.slot.specs.BankRule.{slot_of}
-use Rattle.slot.specs.SettingsLaws.{TypedChange, zero_bytes, Stays, field_keeps, change_keeps}
+use Rattle.slot.specs.SettingsLaws.{TypedChange, zero_bytes, Stays}
+use Rattle.slot.proofs.SettingsLaws.{field_keeps, change_keeps}
 use Rattle.changes.specs.declared.change.Change.{Change}
 use Rattle.changes.specs.declared.change.Change.TheVariants.{ClaimTo, SetCpuTargetMask, Operate}
 use Rattle.model.specs.Calls.{Distributor, Call, change, size, created, slot_after, step}

@@ -4,7 +4,5 @@ pub mod NoSlot
 pub mod BankRule
 pub mod BankRuleLaws
 pub mod Guest
-pub mod GuestRows
-pub mod GuestLaws
 pub mod HiddenLaws
 pub mod SettingsLaws

@@ -23,7 +23,7 @@ use Rattle.slot.specs.declared.slot.Slot.{Slot}
 use Rattle.slot.specs.Effects.{touches}
 use Rattle.slot.specs.Slots.{fresh_spi, showing, field_written, field_listed, changed}
 use Rattle.slot.specs.Guest.{shows_then, can_list, reads_deliverable}
-use Rattle.slot.specs.GuestRows.{made, shown-after, record_row, effect_chosen, lists_chosen, can_list_lem}
+use Rattle.slot.proofs.GuestRows.{made, shown-after, record_row, effect_chosen, lists_chosen, can_list_lem}
 
 -- what a new SPI shows, bank by bank in the order of Arm's map: it is the guest's where all SPIs are, and its priority is 0x80
 pub fresh_shows : (raw : ℕ) → map (λ b. showing false b (fresh_spi raw)) banks ≡ 1 ∷ 0 ∷ 0 ∷ 0 ∷ 0 ∷ 0 ∷ 0 ∷ 0x80 ∷ 0 ∷ 0 ∷ []

@@ -1,0 +1,4 @@
+pub mod GuestRows
+pub mod GuestLaws
+pub mod HiddenLaws
+pub mod SettingsLaws
