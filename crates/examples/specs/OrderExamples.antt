@@ -23,7 +23,8 @@ use Rattle.changes.specs.declared.change.Change.TheVariants.{Release, Operate}
 use Rattle.spi.specs.declared.question.Question.TheVariants.{Enabled}
 use Rattle.model.specs.Calls.{Distributor, Call, create, read, write, is_switched_on, rollback, change, ask, step, reply, plain, size}
 use Rattle.order.specs.Names.{the_switch, spi, names}
-use Rattle.order.specs.Order.{named, ordered}
+use Rattle.order.specs.Order.{named}
+use Rattle.order.proofs.Order.{ordered}
 use Rattle.examples.specs.Board.{K, writes}
 
 -- ---- what calls on K name

@@ -34,9 +34,9 @@ use Rattle.order.specs.Names.{spi, names, read_names, write_names}
 use Rattle.image.specs.Bytes.{flat, Bytes}
 use Rattle.image.specs.Kept.{good_word, word_of}
 use Rattle.image.specs.Header.{good_image, header_of}
-use Rattle.image.specs.HeaderLaws.{fitting_image}
+use Rattle.image.proofs.HeaderLaws.{fitting_image}
 use Rattle.image.specs.Meaning.{record_at, meant_at, table, meaning}
-use Rattle.image.specs.MeaningLaws.{table_at, map_at-table, slot_at}
+use Rattle.image.proofs.MeaningLaws.{table_at, map_at-table, slot_at}
 use Rattle.image_model.specs.declared.told.Told.{Told}
 use Rattle.image_model.specs.declared.told.WidthAnswer.TheVariants.{Of, No}
 use Rattle.face.specs.declared.sweeps.FieldsRead.TheVariants.{Value, Bad}

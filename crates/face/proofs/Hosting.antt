@@ -29,7 +29,7 @@ use Rattle.image.specs.declared.header.Header.{Header}
 use Rattle.image.specs.declared.header.HeaderAnswer.TheVariants.{Good, Bad}
 use Rattle.image.specs.Header.{header_of, good_image, header_answer}
 use Rattle.image.specs.Meaning.{record_at, meant_at, meaning}
-use Rattle.image.specs.MeaningLaws.{length-table, meaning_slot, slot_at}
+use Rattle.image.proofs.MeaningLaws.{length-table, meaning_slot, slot_at}
 use Rattle.image_model.specs.Told.{told, bad_image}
 use Rattle.image_model.specs.Face.{host, seen, named_in, good_named, image_after, on_records, refuses}
 use Rattle.face.specs.Guest.{Headed}

@@ -19,11 +19,11 @@ use Rattle.model.specs.Calls.{Distributor}
 use Rattle.image.specs.Bytes.{bytes_of, flat, Bytes}
 use Rattle.image.specs.ByteLaws.{length_bytes, number_fits}
 use Rattle.image.specs.Kept.{good_word, word_of}
-use Rattle.image.specs.KeptLaws.{word_of_slot}
+use Rattle.image.proofs.KeptLaws.{word_of_slot}
 use Rattle.image.specs.Header.{header_in, header_of, good_image, header_words}
-use Rattle.image.specs.HeaderLaws.{fitting_image, good_length, switch_beside, switch_header, switch_good}
+use Rattle.image.proofs.HeaderLaws.{fitting_image, good_length, switch_beside, switch_header, switch_good}
 use Rattle.image.specs.Meaning.{record_at, meant_at}
-use Rattle.image.specs.MeaningLaws.{tabulate_agree}
+use Rattle.image.proofs.MeaningLaws.{tabulate_agree}
 use Rattle.image_model.specs.Face.{rewritten}
 use Rattle.image_model.specs.FaceLaws.{image_numbers}
 use Rattle.face.specs.Sweeps.{Sized, Put}

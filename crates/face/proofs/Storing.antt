@@ -16,9 +16,9 @@ use Rattle.image.specs.Bytes.{number_at, bytes_of}
 use Rattle.image.specs.ByteLaws.{length_bytes, number-stored, number_beside}
 use Rattle.image.specs.Kept.{good_word, slot_in}
 use Rattle.slot.specs.NoSlot.{no_slot}
-use Rattle.image.specs.KeptLaws.{meant-good}
+use Rattle.image.proofs.KeptLaws.{meant-good}
 use Rattle.image.specs.Meaning.{record_at, meant_at, table}
-use Rattle.image.specs.MeaningLaws.{table_at}
+use Rattle.image.proofs.MeaningLaws.{table_at}
 
 module _ (l : List ℕ) (p w : ℕ) where
   abbrev pub stored : List ℕ

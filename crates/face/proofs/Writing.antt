@@ -21,9 +21,10 @@ use Rattle.slot.specs.BankRule.{covers, candidate}
 use Rattle.slot.specs.BankRuleLaws.{candidate_in}
 use Rattle.image.specs.Bytes.{bytes_of}
 use Rattle.image.specs.Kept.{good_word, slot_in, word_of}
-use Rattle.image.specs.KeptLaws.{Held, held_in, held-written, word_fits}
+use Rattle.image.specs.KeptLaws.{Held}
+use Rattle.image.proofs.KeptLaws.{held_in, held-written, word_fits}
 use Rattle.image.specs.Meaning.{record_at, meant_at, table}
-use Rattle.image.specs.MeaningLaws.{table_at}
+use Rattle.image.proofs.MeaningLaws.{table_at}
 use Rattle.image_model.specs.Face.{good_where}
 use Rattle.face.specs.Sweeps.{Put}
 use Rattle.face.proofs.Naming.{written, written-inside}

@@ -18,7 +18,8 @@ use Rattle.slot.specs.BankRule.{slot_of}
 use Rattle.model.specs.Calls.{Distributor, Call, create, read, write, is_switched_on, rollback, change, ask, Reply, read_reply, step, reply}
 use Rattle.model.specs.Replies.{Lists, turned_down, listed, write_lists}
 use Rattle.order.specs.Names.{the_switch, spi}
-use Rattle.order.specs.Order.{named, ordered}
+use Rattle.order.specs.Order.{named}
+use Rattle.order.proofs.Order.{ordered}
 use Rattle.distributor.specs.declared.distributor.DistributorState.{DistributorState}
 use Rattle.distributor.specs.Model.{model_of}
 use Rattle.distributor.specs.ModelLaws.{one_state}

@@ -15,11 +15,11 @@ use Rattle.image.specs.Bytes.{bytes_of, flat}
 use Rattle.image.specs.ByteLaws.{bytes_listed, flat_append}
 use Rattle.image.specs.BitLaws.{flagged, flag_at, read_bit, flags_of}
 use Rattle.image.specs.Kept.{word_of}
-use Rattle.image.specs.KeptLaws.{word-fresh}
+use Rattle.image.proofs.KeptLaws.{word-fresh}
 use Rattle.image.specs.Header.{header_words}
-use Rattle.image.specs.HeaderLaws.{owner-set, header_bytes}
+use Rattle.image.proofs.HeaderLaws.{owner-set, header_bytes}
 use Rattle.image.specs.Meaning.{image_of}
-use Rattle.image.specs.MeaningLaws.{slot_at, tabulate_agree}
+use Rattle.image.proofs.MeaningLaws.{slot_at, tabulate_agree}
 use Rattle.image_model.specs.Face.{refuses}
 use Rattle.image_model.specs.Create.{settings, create_seen}
 use Rattle.image_model.specs.FaceRefusals.{refusal}

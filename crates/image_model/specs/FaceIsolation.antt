@@ -24,11 +24,12 @@ use Rattle.image.specs.declared.header.Header.{Header}
 use Rattle.image.specs.Bytes.{byte_of, number_at, Bytes}
 use Rattle.image.specs.ByteLaws.{number_same, number_fits, byte_of_number}
 use Rattle.image.specs.Kept.{claimed_in, fixed_in, ownership_in, slot_in, good_word, word_of}
-use Rattle.image.specs.KeptLaws.{Held, slot_of_word, word_of_slot, meant-good}
+use Rattle.image.specs.KeptLaws.{Held}
+use Rattle.image.proofs.KeptLaws.{slot_of_word, word_of_slot, meant-good}
 use Rattle.image.specs.Header.{header_in, header_of, good_image}
-use Rattle.image.specs.HeaderLaws.{fitting_image}
+use Rattle.image.proofs.HeaderLaws.{fitting_image}
 use Rattle.image.specs.Meaning.{record_at, meant, meant_at, table, meaning}
-use Rattle.image.specs.MeaningLaws.{length-table, table_at, named_slot, meaning-kept, kept_step}
+use Rattle.image.proofs.MeaningLaws.{length-table, table_at, named_slot, meaning-kept, kept_step}
 use Rattle.image_model.specs.declared.told.WidthAnswer.{WidthAnswer}
 use Rattle.image_model.specs.declared.told.WidthAnswer.TheVariants.{Of, No}
 use Rattle.image_model.specs.Told.{told, bad_image, width_answer}

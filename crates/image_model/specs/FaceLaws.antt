@@ -15,16 +15,19 @@ use Rattle.slot.specs.BankRule.{slot_of}
 use Rattle.model.specs.Calls.{Distributor, Call, size, step}
 use Rattle.model.specs.Typed.{TypedCall}
 use Rattle.order.specs.Names.{the_switch, spi, names}
-use Rattle.order.specs.OrderFacts.{keeps, slot_same}
+use Rattle.order.specs.OrderFacts.{slot_same}
+use Rattle.order.proofs.OrderFacts.{keeps}
 use Rattle.image.specs.declared.header.Header.{Header}
 use Rattle.image.specs.Bytes.{byte_of, flat, Bytes}
 use Rattle.image.specs.ByteLaws.{length-flat, flat_append, flat_bytes, number_same, number_fits, byte_of_number}
 use Rattle.image.specs.Kept.{good_word, word_of}
-use Rattle.image.specs.KeptLaws.{meant-good, meant_word, word_fits, word_good, word_of_slot}
+use Rattle.image.proofs.KeptLaws.{meant-good, meant_word, word_fits, word_good, word_of_slot}
 use Rattle.image.specs.Header.{header_of, good_image, header_words}
-use Rattle.image.specs.HeaderLaws.{Fitting, header_bytes, fitting_image, good_length, image_words}
+use Rattle.image.specs.HeaderLaws.{Fitting}
+use Rattle.image.proofs.HeaderLaws.{header_bytes, fitting_image, good_length, image_words}
 use Rattle.image.specs.Meaning.{record_at, meant, meaning}
-use Rattle.image.specs.MeaningLaws.{Kept, Whole, tabulate_agree, flat_image, image_with, length_with, record_with, good_with, header_with, meaning_with, meaning-kept, named_slot, kept_step}
+use Rattle.image.specs.MeaningLaws.{Kept, Whole, image_with}
+use Rattle.image.proofs.MeaningLaws.{tabulate_agree, flat_image, length_with, record_with, good_with, header_with, meaning_with, meaning-kept, named_slot, kept_step}
 use Rattle.image_model.specs.Face.{named_in, good_named, rewritten, image_after}
 use Rattle.image_model.specs.GoodLaws.{good-at}
 

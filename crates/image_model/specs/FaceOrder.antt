@@ -26,14 +26,16 @@ use Rattle.model.specs.Calls.{Distributor, Call, Reply, size, created, step, rep
 use Rattle.model.specs.Typed.{TypedCall}
 use Rattle.order.specs.Names.{Name, the_switch, spi, names}
 use Rattle.order.specs.OrderFacts.{contents, slot_same}
-use Rattle.order.specs.Order.{Settled, footprint}
+use Rattle.order.specs.Order.{Settled}
+use Rattle.order.proofs.Order.{footprint}
 use Rattle.image.specs.Bytes.{byte_of, flat}
 use Rattle.image.specs.ByteLaws.{length-flat, flat_append, byte_of_number}
 use Rattle.image.specs.Kept.{word_of}
 use Rattle.image.specs.Header.{header_of, good_image, header_words}
 use Rattle.image.specs.HeaderLaws.{Fitting}
 use Rattle.image.specs.Meaning.{meaning, image_of}
-use Rattle.image.specs.MeaningLaws.{Kept, Whole, image_whole, image_meaning, meaning_image, record_there, kept-created, kept_step}
+use Rattle.image.specs.MeaningLaws.{Kept, Whole}
+use Rattle.image.proofs.MeaningLaws.{image_whole, image_meaning, meaning_image, record_there, kept-created, kept_step}
 use Rattle.image_model.specs.declared.told.Told.{Told}
 use Rattle.image_model.specs.declared.told.WidthAnswer.{WidthAnswer}
 use Rattle.image_model.specs.declared.told.WidthAnswer.TheVariants.{Of, No}

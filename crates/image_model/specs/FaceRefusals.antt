@@ -28,9 +28,11 @@ use Rattle.model.specs.Calls.{Distributor, Call, create, is_switched_on, rollbac
 use Rattle.model.specs.Replies.{Lists, turned_down, listed, write_lists, candidates_fit}
 use Rattle.model.specs.RefusedWhen.{misplaced, covered_beyond, written_beyond, no_spi, claims, refusal_of, exactly}
 use Rattle.order.specs.Names.{Name, the_switch, spi}
-use Rattle.order.specs.NamesLaws.{set_at, written_by, named_by, names_so}
-use Rattle.order.specs.OrderFacts.{keeps}
-use Rattle.order.specs.Order.{named, footprint}
+use Rattle.order.specs.NamesLaws.{set_at, written_by, named_by}
+use Rattle.order.proofs.NamesLaws.{names_so}
+use Rattle.order.proofs.OrderFacts.{keeps}
+use Rattle.order.specs.Order.{named}
+use Rattle.order.proofs.Order.{footprint}
 use Rattle.order.specs.Refusals.{asking_still, refused_still}
 use Rattle.image.specs.Bytes.{flat, Bytes}
 use Rattle.image.specs.ByteLaws.{length-flat}

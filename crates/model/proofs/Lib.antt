@@ -3,3 +3,4 @@ pub mod Covering
 pub mod Granting
 pub mod Listing
 pub mod Reading
+pub mod Creating

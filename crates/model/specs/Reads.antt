@@ -1,12 +1,8 @@
 -- What the registers with no INTID read, in every state and after creation; the switch; and which SPIs a new Distributor has.
-use Rattle.std.specs.Prelude.{ℕ, ◌+◌, ◌-◌, ◌*◌, ◌≡◌, Bool, true, [], ◌∷◌, get_or}
+use Rattle.std.specs.Prelude.{ℕ, ◌+◌, ◌*◌, ◌≡◌, Bool, [], ◌∷◌, get_or}
 use Rattle.std.proofs.Math.Path.{refl}
-use Rattle.std.proofs.Common.{ap, subst, ◌∙◌, arith}
-use Rattle.theory.specs.ListLaws.{get_or-tabulate}
-use Rattle.identifiers.specs.Answer.{done, raw_of}
-use Rattle.interrupt.specs.Records.{fresh}
-use Rattle.place.specs.Table.{capacity, table_size, in_table}
-use Rattle.place.specs.TableLaws.{in_range}
+use Rattle.std.proofs.Common.{subst, arith}
+use Rattle.identifiers.specs.Answer.{done}
 use Rattle.controller.specs.declared.controller.ControllerConfig.{ControllerConfig}
 use Rattle.controller.specs.Identity.{typer_value}
 use Rattle.controller.specs.IdentityLaws.{Typer, typer_fields}
@@ -14,12 +10,7 @@ use Rattle.bank.specs.Banks.{bit}
 use Rattle.registers.specs.declared.register.Register.TheVariants.{Identification, Ctlr, Iidr}
 use Rattle.registers.specs.declared.register.Register.{Register}
 use Rattle.registers.specs.declared.register.Access.TheVariants.{To}
-use Rattle.slot.specs.Slots.{fresh_spi}
-use Rattle.slot.specs.BankRule.{slot_of}
-use Rattle.slot.specs.NoSlot.{no_slot}
-use Rattle.slot.specs.declared.slot.Slot.{Slot}
-use Rattle.spi.specs.declared.question.Question.TheVariants.{Intid}
-use Rattle.model.specs.Calls.{Distributor, is_switched_on, rollback, ask, plain, size, created, step, read_reply, reply}
+use Rattle.model.specs.Calls.{Distributor, is_switched_on, rollback, plain, size, created, step, read_reply, reply}
 
 module _ (d : Distributor) where
   -- ARE_NS is 1, and bit 1 is the switch
@@ -45,19 +36,7 @@ module _ (d : Distributor) where
   unfolding reply
   switch_asked = refl
 
--- a new Distributor is switched off, and has a new SPI for each INTID of its table
+-- a new Distributor is switched off
 module _ (c : ControllerConfig) (n : ℕ) where
   pub created_off : read_reply (created c n) (To Ctlr) ≡ plain (done (0x10 ∷ []))
   created_off = refl
-
-  module _ (i : ℕ) (here : in_table (table_size n) i ≡ true) where
-    pub created_slot : slot_of (created c n).slots i ≡ fresh_spi i
-    created_slot =
-        let (low, high) = in_range (table_size n) i here in
-        let at : 32 + (0 + (i - 32)) ≡ i = omega arith in
-        get_or-tabulate (λ p. fresh_spi (32 + p)) 0 capacity (i - 32) no_slot (omega arith) ∙ ap fresh_spi at
-
-    -- which tells its own INTID
-    pub created_intid : (reply (ask Intid i) (created c n)).answer ≡ done (i ∷ [])
-    unfolding reply fresh
-    created_intid = rw here (ap (λ (s : Slot). done (raw_of s.interrupt.intid ∷ [])) created_slot)

@@ -2,6 +2,5 @@ pub mod Names
 pub mod NamesLaws
 pub mod Refusals
 pub mod OrderFacts
-pub mod ReplyFacts
 pub mod Order
 pub mod Isolation

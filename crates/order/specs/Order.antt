@@ -12,8 +12,6 @@ use Rattle.controller.specs.declared.controller.ControllerConfig.{ControllerConf
 use Rattle.slot.specs.BankRule.{slot_of}
 use Rattle.model.specs.Calls.{Distributor, Call, size, created, step, reply}
 use Rattle.order.specs.Names.{Name, the_switch, spi, names}
-use Rattle.order.specs.OrderFacts.{contents, keeps, state_with, local_state, whole_state, slot_same}
-use Rattle.order.specs.ReplyFacts.{reply_rests}
 
 -- what a call names, by the settings and the count of a Distributor, which no call changes
 abbrev pub named : Distributor → Call → Name → Bool
@@ -33,57 +31,8 @@ pub record Ordered (d : Distributor) : Type 0 where
       → (run step xs d ≡ run step ys d)
       × ((i : ℕ) → i < length xs → get_elem? (answers step reply xs d) i ≡ get_elem? (answers step reply ys d) (m.to i))
 
--- ---- the four facts, of the states with the settings and the count of one creation
-
+-- the states with the settings and the count of one creation
 module _ (c : ControllerConfig) (n : ℕ) where
   pub record Settled (d : Distributor) : Type 0 where
     pub config : d.config ≡ c
     pub count : d.count ≡ n
-
-  settled : (d : Distributor) → Settled d → d ≡ state_with c n d.switch d.slots
-  settled d ok = let p = ok.config in let q = ok.count in λ j. record { config = p j; switch = d.switch; count = q j; slots = d.slots }
-
-  contents_same : (m : Name) (d e : Distributor) → Settled d → Settled e → contents m d ≡ contents m e → contents m (state_with c n d.switch d.slots) ≡ contents m (state_with c n e.switch e.slots)
-  contents_same m d e okd oke h = sym (ap (contents m) (settled d okd)) ∙ h ∙ ap (contents m) (settled e oke)
-
-  pub footprint : Footprint (names c (table_size n)) step reply contents Settled
-  unfolding step
-  footprint =
-      record {
-        stays = λ k d ok. record { config = ok.config; count = ok.count };
-        keeps = λ k m d ok e. keeps k m d (rw (ok.config, ok.count) e);
-        local = λ k m d e okd oke h.
-            ap (λ (x : Distributor). contents m (step k x)) (settled d okd)
-            ∙ local_state c n k m d.switch e.switch d.slots e.slots (contents_same m d e okd oke h)
-            ∙ sym (ap (λ (x : Distributor). contents m (step k x)) (settled e oke));
-        told = λ k d e okd oke h.
-            ap (reply k) (settled d okd)
-            ∙ reply_rests c n d.switch e.switch d.slots e.slots k (h the_switch)
-            (λ i t inside. slot_same d.slots e.slots i (in_range (table_size n) i inside).0 (h (spi i) t))
-            ∙ sym (ap (reply k) (settled e oke));
-        whole = λ d e okd oke h.
-            settled d okd
-            ∙ whole_state c n d.switch e.switch d.slots e.slots (λ m. contents_same m d e okd oke (h m))
-            ∙ sym (settled e oke);
-      }
-
--- ---- the theorem
-
-module _ (d : Distributor) where
-  here : Settled d.config d.count d
-  here = record { config = refl; count = refl }
-
-  replay_contents : (calls : List Call) (m : Name) → contents m (run step calls d) ≡ contents m (run step (naming (named d) m calls) d)
-  replay_contents calls m = replay (named d) step reply contents (Settled d.config d.count) (footprint d.config d.count) m calls d here
-
-  pub ordered : Ordered d
-  ordered =
-      record {
-        replay_spi = λ calls i h. slot_same (run step calls d).slots (run step (naming (named d) (spi i) calls) d).slots i h (replay_contents calls (spi i));
-        replay_switch = λ calls. replay_contents calls the_switch;
-        reordering = λ xs ys m. reordered (named d) step reply contents (Settled d.config d.count) (footprint d.config d.count) xs ys m d here;
-      }
-
--- from creation, with any settings and any number of SPIs
-pub ordered_from_creation : (c : ControllerConfig) (n : ℕ) → Ordered (created c n)
-ordered_from_creation c n = ordered (created c n)

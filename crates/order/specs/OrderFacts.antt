@@ -1,5 +1,4 @@
--- Four facts of ONE call: it keeps what it does not name; what is held under a name changes by what is held there alone; its reply
--- rests on what it names; the names hold all of the state.
+-- What is held under a name. It changes in one call by what is held there alone, and the names hold all of the state.
 use Prim.Native.Nat.{ℕ, ◌+◌, ◌-◌, ◌≤◌}
 use Rattle.std.specs.Prelude.{◌≡◌, Bool, true, false, ◌&&◌, cond, List, leb}
 use Rattle.std.proofs.Math.Path.{refl, ap}
@@ -37,74 +36,6 @@ Contents (spi i) = Option Slot
 abbrev pub contents : (m : Name) → Distributor → Contents m
 contents the_switch d = d.switch
 contents (spi i) d = slot_at d.slots i
-
--- ---- a call keeps what it does not name
-
--- a field that is not covered, or does not act, leaves the slot
-unwritten : (covered acting own : Bool) (does : FieldEffect) (s : Slot) → (covered && acting) ≡ false
-    → cond covered (effected (cond (acting && own) does untouched).effect s) s ≡ s
-unwritten true true own does s e = absurd (true≢false e)
-unwritten true false own does s e = refl
-unwritten false acting own does s e = refl
-
-module _ (c : ControllerConfig) (n : ℕ) where
-  write_switch : (a : Access) (v : ℕ) (on : Bool) → write_names n a v the_switch ≡ false → switched c n a v on ≡ on
-  write_switch (Refused f) v on e = refl
-  write_switch (To (Identification k)) v on e = refl
-  write_switch (To Ctlr) v on e = absurd (true≢false e)
-  write_switch (To Typer) v on e = refl
-  write_switch (To Iidr) v on e = refl
-  write_switch (To (Fields b lo m)) v on e = refl
-  write_switch (To Reserved) v on e = refl
-
-  switch_kept : (k : Call) (on : Bool) → names c n k the_switch ≡ false → switch_after c n k on ≡ on
-  unfolding names
-  switch_kept (create d m) on e = refl
-  switch_kept (read offset w) on e = refl
-  switch_kept (write offset w v places) on e = write_switch (write_access places n c.distributor_size offset w) v on e
-  switch_kept is_switched_on on e = refl
-  switch_kept (rollback to) on e = absurd (true≢false e)
-  switch_kept (change h raw) on e = refl
-  switch_kept (ask q raw) on e = refl
-
-  write_slot : (a : Access) (v i : ℕ) (s : Slot) → write_names n a v (spi i) ≡ false → written_at c n a v i s ≡ s
-  write_slot (Refused f) v i s e = refl
-  write_slot (To (Identification k)) v i s e = refl
-  write_slot (To Ctlr) v i s e = refl
-  write_slot (To Typer) v i s e = refl
-  write_slot (To Iidr) v i s e = refl
-  write_slot (To (Fields b lo m)) v i s e =
-      let f = field b v lo i in
-      unwritten (covers n lo m i) (acts b f) (owned (explicit c.spi_ownership) s.ownership) (record { effect = effect_of s.ownership.fixed_route b f; lists = lists b }) s e
-  write_slot (To Reserved) v i s e = refl
-
-  slot_kept : (k : Call) (i : ℕ) (s : Slot) → names c n k (spi i) ≡ false → slot_after c n k i s ≡ s
-  unfolding names
-  slot_kept (create d m) i s e = refl
-  slot_kept (read offset w) i s e = refl
-  slot_kept (write offset w v places) i s e = write_slot (write_access places n c.distributor_size offset w) v i s e
-  slot_kept is_switched_on i s e = refl
-  slot_kept (rollback to) i s e = refl
-  slot_kept (change h raw) i s e = rw e
-  slot_kept (ask q raw) i s e = refl
-
-pub keeps : (k : Call) (m : Name) (d : Distributor) → names d.config (size d) k m ≡ false → contents m (step k d) ≡ contents m d
-unfolding step
-keeps k the_switch d e = switch_kept d.config (size d) k d.switch e
-keeps k (spi i) d e = go (leb 32 i) refl
-  where
-    f : ℕ → Slot → Slot
-    f p = slot_after d.config (size d) k (32 + p)
-
-    still : 32 ≤ i → (o : Option Slot) → map (f (i - 32)) o ≡ o
-    still h none = refl
-    still h (some s) =
-        let z : 32 + (i - 32) ≡ i = omega arith in
-        ap {B = Option Slot} (λ (j : ℕ). some (slot_after d.config (size d) k j s)) z ∙ ap {B = Option Slot} some (slot_kept d.config (size d) k i s e)
-
-    go : (b : Bool) → leb 32 i ≡ b → cond b (get_elem? (step k d).slots (i - 32)) none ≡ cond b (get_elem? d.slots (i - 32)) none
-    go true h = at-map_at f d.slots (i - 32) ∙ still (leb-true 32 i h) (get_elem? d.slots (i - 32))
-    go false h = refl
 
 -- ---- what is held under a name changes by what is held there alone
 

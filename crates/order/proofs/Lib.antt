@@ -1,0 +1,4 @@
+pub mod NamesLaws
+pub mod OrderFacts
+pub mod ReplyFacts
+pub mod Order
