@@ -25,7 +25,7 @@ use Rattle.image.proofs.HeaderLaws.{fitting_image, good_length, switch_beside, s
 use Rattle.image.specs.Meaning.{record_at, meant_at}
 use Rattle.image.proofs.MeaningLaws.{tabulate_agree}
 use Rattle.image_model.specs.Face.{rewritten}
-use Rattle.image_model.specs.FaceLaws.{image_numbers}
+use Rattle.image_model.proofs.FaceLaws.{image_numbers}
 use Rattle.face.specs.Sweeps.{Sized, Put}
 use Rattle.face.proofs.Storing.{meant_there}
 

@@ -22,7 +22,7 @@ use Rattle.life.specs.declared.life.Life.{Life}
 use Rattle.life.specs.Life.{flags, redelivery, line}
 use Rattle.interrupt.specs.declared.interrupt.Route.{Route}
 use Rattle.interrupt.specs.declared.interrupt.TargetMask.{TargetMask}
-use Rattle.interrupt.specs.Records.{fresh, is_level, route_in, mask_in, route_set, route_held, mask_set, mask_held, restored}
+use Rattle.interrupt.specs.Records.{fresh, route_in, mask_in, route_set, route_held, mask_set, mask_held, restored}
 use Rattle.operation.specs.Laws.{Settings, settings_of, record_path}
 use Rattle.operation.specs.Tidy.{Tidy}
 use Rattle.bank.specs.declared.bank.Bank.{Bank}

@@ -2,7 +2,6 @@ pub mod Told
 pub mod Face
 pub mod GoodLaws
 pub mod Create
-pub mod FaceLaws
 pub mod FaceRefusals
 pub mod CreateLaws
 pub mod FaceOrder

@@ -1,16 +1,14 @@
 -- The theorem on the order of calls, `ordered`, by four facts of ONE call: it keeps what it does not name; what is held under a name
 -- changes by what is held there alone; its reply rests on what it names; the names hold all of the state.
-use Rattle.std.specs.Prelude.{ℕ, ◌≤◌, ◌<◌, ◌≡◌, refl, Bool, List, length}
+use Rattle.std.specs.Prelude.{ℕ, ◌≡◌, refl, List}
 use Rattle.std.proofs.Math.Path.{sym, ap}
 use Rattle.std.proofs.Common.{◌∙◌}
-use Rattle.std.proofs.Math.ListN.{get_elem?}
-use Rattle.theory.specs.Runs.{run, answers, naming, Matching}
+use Rattle.theory.specs.Runs.{run, naming}
 use Rattle.theory.specs.Footprint.{Footprint, replay, reordered}
 use Rattle.place.specs.Table.{table_size}
 use Rattle.place.specs.TableLaws.{in_range}
 use Rattle.controller.specs.declared.controller.ControllerConfig.{ControllerConfig}
-use Rattle.slot.specs.BankRule.{slot_of}
-use Rattle.model.specs.Calls.{Distributor, Call, size, created, step, reply}
+use Rattle.model.specs.Calls.{Distributor, Call, created, step, reply}
 use Rattle.order.specs.Names.{Name, the_switch, spi, names}
 use Rattle.order.specs.OrderFacts.{contents, state_with, local_state, whole_state, slot_same}
 use Rattle.order.specs.Order.{named, Ordered, Settled}

@@ -1,34 +1,17 @@
 -- What each call names, in the paper's words: by offsets and numbers, and not by what an access is decoded to. If `names` held too much,
 -- the theorems on order would only say less; so it is held against this.
-use Rattle.std.specs.Prelude.{ℕ, zero, suc, ◌+◌, ◌-◌, ◌*◌, ◌/◌, ◌%◌, ◌^◌, ◌≤◌, ◌≡◌, Bool, true, false, not, ◌&&◌, cond, ltb, eqb}
-use Rattle.std.proofs.Math.Path.{refl, ap}
-use Rattle.std.proofs.Common.{◌∙◌, arith, eqb-true, ne_eqb}
-use Rattle.std.proofs.Math.Bool.{and-true, and-false}
-use Rattle.std.proofs.Math.Logic.{by_cases}
-use Rattle.std.proofs.Math.Decide.{dec_lt}
-use Rattle.theory.specs.Bools.{refuted}
-use Rattle.bank.specs.declared.bank.Bank.{Bank}
+use Rattle.std.specs.Prelude.{ℕ, ◌+◌, ◌-◌, ◌*◌, ◌/◌, ◌%◌, ◌^◌, Bool, true, false, not, ◌&&◌, cond, ltb, eqb}
 use Rattle.identifiers.specs.Answer.{within}
-use Rattle.identifiers.specs.declared.error.Refusal.TheVariants.{InvalidAccess, InvalidWidth, ShortList}
 use Rattle.place.specs.Table.{in_table}
 use Rattle.controller.specs.declared.controller.ControllerConfig.{ControllerConfig}
-use Rattle.bank.specs.Banks.{acts, field}
-use Rattle.bank.specs.declared.bank.Bank.TheVariants.{Replace}
-use Rattle.bank.specs.declared.bank.Field.{Field}
 use Rattle.registers.specs.declared.register.AccessWidth.{AccessWidth}
 use Rattle.registers.specs.declared.register.Direction.{Direction}
 use Rattle.registers.specs.declared.register.Direction.TheVariants.{Reading, Writing}
-use Rattle.registers.specs.declared.register.Register.{Register}
-use Rattle.registers.specs.declared.register.Register.TheVariants.{Identification, Ctlr, Typer, Iidr, Fields, Reserved}
-use Rattle.registers.specs.declared.register.Access.{Access}
-use Rattle.registers.specs.declared.register.Access.TheVariants.{To, Refused}
 use Rattle.registers.specs.Registers.{bytes_of}
-use Rattle.registers.specs.MapLaws.{flag_bank}
-use Rattle.registers.specs.FrameLaws.{words, in_words, needs_another}
-use Rattle.registers.specs.FrameMap.{register_there, flags_there, ipriorityr_there, icfgr_there, irouter_there}
+use Rattle.registers.specs.FrameLaws.{words, needs_another}
 use Rattle.model.specs.Calls.{Call, create, read, write, is_switched_on, rollback, change, ask}
-use Rattle.model.specs.RefusedWhen.{misplaced, reached_at, decoded_at}
-use Rattle.order.specs.Names.{Name, the_switch, spi, read_names, write_names, names}
+use Rattle.model.specs.RefusedWhen.{misplaced}
+use Rattle.order.specs.Names.{Name, the_switch, spi}
 
 -- ---- the paper's words
 

@@ -1,16 +1,11 @@
 -- The order of calls. What becomes of an SPI, or of the switch, rests on the calls that name it; and calls may change places unless
 -- they name an SPI, or the switch, in common. Of every call of the Distributor, refused calls included.
-use Rattle.std.specs.Prelude.{ℕ, ◌≤◌, ◌<◌, ◌≡◌, refl, Bool, List, length}
-use Rattle.std.proofs.Math.Path.{sym, ap}
-use Rattle.std.proofs.Common.{◌∙◌}
+use Rattle.std.specs.Prelude.{ℕ, ◌≤◌, ◌<◌, ◌≡◌, Bool, List, length}
 use Rattle.std.proofs.Math.ListN.{get_elem?}
 use Rattle.theory.specs.Runs.{run, answers, naming, Matching}
-use Rattle.theory.specs.Footprint.{Footprint, replay, reordered}
-use Rattle.place.specs.Table.{table_size}
-use Rattle.place.specs.TableLaws.{in_range}
 use Rattle.controller.specs.declared.controller.ControllerConfig.{ControllerConfig}
 use Rattle.slot.specs.BankRule.{slot_of}
-use Rattle.model.specs.Calls.{Distributor, Call, size, created, step, reply}
+use Rattle.model.specs.Calls.{Distributor, Call, size, step, reply}
 use Rattle.order.specs.Names.{Name, the_switch, spi, names}
 
 -- what a call names, by the settings and the count of a Distributor, which no call changes

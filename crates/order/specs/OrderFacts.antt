@@ -1,27 +1,18 @@
 -- What is held under a name. It changes in one call by what is held there alone, and the names hold all of the state.
 use Prim.Native.Nat.{ℕ, ◌+◌, ◌-◌, ◌≤◌}
-use Rattle.std.specs.Prelude.{◌≡◌, Bool, true, false, ◌&&◌, cond, List, leb}
+use Rattle.std.specs.Prelude.{◌≡◌, Bool, true, false, cond, List, leb}
 use Rattle.std.proofs.Math.Path.{refl, ap}
-use Rattle.std.proofs.Common.{sym, ◌∙◌, true≢false, arith, leb-true, le-leb}
-use Rattle.std.proofs.Math.Option.{Option, none, some, map}
+use Rattle.std.proofs.Common.{sym, ◌∙◌, arith, le-leb}
+use Rattle.std.proofs.Math.Option.{Option, none, map}
 use Rattle.std.proofs.Math.ListN.{get_elem?}
 use Rattle.theory.specs.Elements.{get_or-at, at_all, at-map_at}
 use Rattle.controller.specs.declared.controller.ControllerConfig.{ControllerConfig}
 use Rattle.slot.specs.declared.slot.Slot.{Slot}
 use Rattle.place.specs.Table.{table_size}
-use Rattle.controller.specs.Modes.{explicit}
-use Rattle.bank.specs.Banks.{acts, lists, field}
-use Rattle.registers.specs.declared.register.Register.TheVariants.{Identification, Ctlr, Typer, Iidr, Fields, Reserved}
-use Rattle.registers.specs.declared.register.Access.{Access}
-use Rattle.registers.specs.declared.register.Access.TheVariants.{To, Refused}
-use Rattle.decoding.specs.Decoding.{write_access}
-use Rattle.ownership.specs.Owned.{owned}
-use Rattle.slot.specs.Effects.{FieldEffect, effect_of, untouched}
-use Rattle.slot.specs.Slots.{effected}
 use Rattle.slot.specs.NoSlot.{no_slot}
-use Rattle.slot.specs.BankRule.{slot_of, covers}
-use Rattle.model.specs.Calls.{Distributor, Call, create, read, write, is_switched_on, rollback, change, ask, size, written_at, slot_after, switched, switch_after, step}
-use Rattle.order.specs.Names.{Name, the_switch, spi, write_names, names}
+use Rattle.slot.specs.BankRule.{slot_of}
+use Rattle.model.specs.Calls.{Distributor, Call, slot_after, switch_after, step}
+use Rattle.order.specs.Names.{Name, the_switch, spi}
 
 -- ---- what is held under a name
 

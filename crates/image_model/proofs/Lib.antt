@@ -1,0 +1,4 @@
+pub mod FaceLaws
+pub mod FaceRefusals
+pub mod FaceIsolation
+pub mod FaceOrder
