@@ -1,7 +1,6 @@
 // The two line calls on a record where it lies. `set_level_in_place` and `pulse_in_place` copy the lent record out, call the
 // method on the copy, and store what it hands back: at exit the reference holds what the method makes of the record that was
-// there at entry. Their proofs follow the code by hand. `set_level_lent` and `pulse_lent` take the record by value, lend it
-// and hand it back, so that whoever calls those needs no such proof.
+// there at entry. `set_level_lent` and `pulse_lent` take the record by value, lend it and hand it back.
 ghost use Rattle.std.specs.Prelude.{◌≡◌};
 ghost use Rattle.interrupt.specs.Records.{line_to, line_pulsed};
 
