@@ -5,7 +5,7 @@
     tools/respell.py --list     print the renamings
 
 A word is in snake case. A dash joins two names (`length-tabulate`: the length of a tabulated list), and `_` adds a plain word
-(`laid_first`). A definition whose value is a fact is in upper camel case. A lemma that would get a definition's name ends in `_lem`.
+(`laid_first`). A definition whose value is a fact is in upper camel case. A name that would fall together with another ends in `_lem`.
 Names of Rattle sources, exported C names, strings, inputs and outputs keep their spelling.
 """
 import glob

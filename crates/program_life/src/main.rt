@@ -1,6 +1,6 @@
 // A record's life, walked: from each combination of flags that a record can have, where each operation leads. A line reads
 // `from: operation: to`; what is printed is held to the file stdout beside src/, and tools/life draws docs/life.svg from it. Where an
-// operation leads rests on the flags and the trigger alone (`flags_after` and `synchronized-flags` in crates/operation/specs/Laws.antt), so one record stands
+// operation leads rests on the flags and the trigger alone (`flags-after` and `synchronized-flags` in crates/operation/specs/Laws.antt), so one record stands
 // for all that have its combination.
 #![tactic(auto)]
 
