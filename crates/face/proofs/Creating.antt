@@ -41,9 +41,6 @@ header_stored l a b c room =
 abbrev pub fresh_to : List ℕ → ℕ → List ℕ
 fresh_to image p = take 24 image ++ flat 8 (replicate p (2 ^ 23))
 
-pub fresh_none : (image : List ℕ) → take (24 + 8 * 0) image ≡ fresh_to image 0
-fresh_none image = sym (append-nil (take 24 image))
-
 flat_more : (k p w : ℕ) → flat k (replicate p w) ++ bytes_of k w ≡ flat k (replicate (suc p) w)
 flat_more k zero w = sym (append-nil (bytes_of k w))
 flat_more k (suc p) w = append_assoc (bytes_of k w) (flat k (replicate p w)) (bytes_of k w) ∙ ap (λ (l : List ℕ). bytes_of k w ++ l) (flat_more k p w)

@@ -3,9 +3,7 @@ use Prim.Native.Nat.{ℕ, zero, suc, ◌+◌, ◌-◌, ◌*◌, ◌%◌, ◌^◌
 use mathlib.Core.Path.{◌≡◌, refl, ap, ◌∙◌}
 use mathlib.Core.Bool.{Bool, true, false, not}
 use mathlib.Core.List.{List}
-use native.Mathlib.Nat.{pow-zero}
 use native.Mathlib.Omega.{arith}
-use lib.ListN.{length}
 use Rattle.place.specs.Table.{capacity, table_size, span_of}
 use Rattle.place.specs.declared.place.Span.{Span}
 use Rattle.bank.specs.declared.bank.Flag.{Flag}
@@ -66,12 +64,6 @@ module _ (e : Bool) (n : ℕ) (b : Bank) (lo m : ℕ) (image : List ℕ) where
         let l = ap (λ (x : Span). x.end) h in
         record { first = f; last = omega arith }
 
-    pub gathered_none : (s : Span) → Spans s → Gathered s.end 0
-    gathered_none s at =
-        let l = at.last in
-        let z : end - s.end ≡ 0 = omega arith in
-        record { low = omega arith; high = omega arith; value = rw z; small = rw (z, pow-zero (2 ^ bits_of b)) (omega arith); good = record { good = λ j p q t. absurd (omega arith) } }
-
     -- a turn: the INTID below i, at the place p, with the number w there
     module _ (s : Span) (at : Spans s) (i v : ℕ) (g : Gathered i v) (more : s.first < i) (p : ℕ) (near : p ≡ min (i - 1 - 32) (capacity - 1)) where
       spi : (32 ≤ i - 1) × (i - 1 < 32 + n) × (lo ≤ i - 1) × (i - 1 < lo + m)
@@ -85,9 +77,6 @@ module _ (e : Bool) (n : ℕ) (b : Bank) (lo m : ℕ) (image : List ℕ) where
 
       place : p ≡ i - 1 - 32
       place = let most = asked.sized.most in let r = spi in omega arith
-
-      pub turn_room : (p < capacity) × (24 + 8 * p + 8 ≤ length image)
-      turn_room = let z = asked.sized.size in let r = spi in let q = place in (omega arith, omega arith)
 
       module _ (w : ℕ) (x : Bool) (hw : w ≡ record_at image p) (hx : x ≡ good_word w) where
         tested : x ≡ good_word (record_at image p)

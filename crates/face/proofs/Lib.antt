@@ -7,4 +7,5 @@ pub mod Naming
 pub mod Rewriting
 pub mod Storing
 pub mod Testing
+pub mod Turning
 pub mod Writing

@@ -1,5 +1,5 @@
 -- The loop that writes a bank's fields to the records of an image: one INTID more. It goes from the INTID `first` up, and stands at i.
-use Prim.Native.Nat.{ℕ, ◌+◌, ◌-◌, ◌*◌, ◌^◌, ◌≤◌, ◌<◌, max}
+use Prim.Native.Nat.{ℕ, ◌+◌, ◌-◌, ◌*◌, ◌^◌, ◌≤◌, ◌<◌}
 use mathlib.Core.Path.{◌≡◌, refl, sym, ap, subst⁻¹, ◌∙◌}
 use mathlib.Core.Logic.{◌≢◌, by_cases}
 use mathlib.Core.Bool.{Bool, true, false, ◌&&◌, cond, and-false, false≢true}
@@ -27,7 +27,7 @@ use Rattle.image.specs.Meaning.{record_at, meant_at, table}
 use Rattle.image.proofs.MeaningLaws.{table_at}
 use Rattle.image_model.specs.Face.{good_where}
 use Rattle.face.specs.Sweeps.{Put}
-use Rattle.face.proofs.Naming.{written, written-inside}
+use Rattle.face.proofs.Naming.{written}
 use Rattle.image_model.specs.GoodLaws.{good-at}
 use Rattle.face.proofs.Storing.{stored-size, stored_here, stored_beside, stored_head, meant_there}
 
@@ -109,19 +109,6 @@ test e n b value lo m old tells i = tells && candidate e n b value lo m (table (
 
 pub unlisted : (e : Bool) (n : ℕ) (b : Bank) (value lo m : ℕ) (old : List ℕ) (tells : Bool) (i : ℕ) → acts b (field b value lo i) ≡ false → test e n b value lo m old tells i ≡ false
 unlisted e n b value lo m old tells i h = let z = idle_unlisted e n b value lo m (table (meant_at n old)) i h in rw (z, and-false tells)
-
--- before the first turn nothing is written
-pub none_done : (e : Bool) (n : ℕ) (b : Bank) (value lo m : ℕ) (old : List ℕ) (i : ℕ) → i ≤ max lo 32 → Put (below (written n b value lo m) (λ k. field_written e b (field b value lo k)) n old i) (λ k. field_written e b (field b value lo k)) n old old
-none_done e n b value lo m old i h =
-    record {
-      size = refl;
-      head = λ at r. refl;
-      records = λ p q. let z : (ltb (32 + p) i && written n b value lo m (32 + p)) ≡ false = go p (written n b value lo m (32 + p)) refl in rw z;
-    }
-  where
-    go : (p : ℕ) (t : Bool) → written n b value lo m (32 + p) ≡ t → (ltb (32 + p) i && t) ≡ false
-    go p true k = let r = written-inside n b value lo m (32 + p) k in let z : ltb (32 + p) i ≡ false = le-ltb (32 + p) i (omega arith) in rw z
-    go p false k = and-false (ltb (32 + p) i)
 
 -- ---- a turn of the code, in its own terms
 

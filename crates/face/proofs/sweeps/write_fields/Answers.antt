@@ -1,15 +1,14 @@
 -- From INTID i on, the fields that do not act are passed over: they write no record and list nothing. The next one after them writes its
 -- record, and lists it or not.
-use Rattle.std.proofs.Common.{ℕ, Bool, ◌≡◌, ◌+◌, ◌-◌, ◌%◌, ◌^◌, ◌≤◌, ◌<◌, min, max, ◌&&◌, refl, sym, ap, ◌∙◌, arith}
+use Rattle.std.proofs.Common.{◌≡◌, ◌+◌, ◌-◌, ◌≤◌, ◌<◌, min, max, ap, ◌∙◌, arith}
 use Rattle.place.specs.declared.place.Span.{Span}
-use Rattle.theory.specs.ListLaws.{passing-inside, passing_few}
-use Rattle.bank.specs.Banks.{bits_of, field, idle_fields}
-use Rattle.bank.proofs.Digits.{used}
-use Rattle.image.specs.Kept.{slot_in}
-use Rattle.image.specs.Meaning.{record_at, meant_at, table}
-use Rattle.face.proofs.Listing.{list_room, list_more, list_skip, table_fits}
-use Rattle.face.proofs.Naming.{written, written-inside, left_at, idle_here, not_written, written_next, one_more, same_turns}
-use Rattle.face.proofs.Writing.{put_skip, put_all, test, tells_inside, unlisted, Done, stored_more, told_more}
+use Rattle.theory.specs.ListLaws.{passing-inside}
+use Rattle.bank.specs.Banks.{idle_fields}
+use Rattle.image.specs.Meaning.{meant_at, table}
+use Rattle.face.proofs.Listing.{list_skip, table_fits}
+use Rattle.face.proofs.Naming.{written, written-inside, idle_here, not_written, one_more, same_turns}
+use Rattle.face.proofs.Turning.{turned}
+use Rattle.face.proofs.Writing.{put_skip, put_all, test, tells_inside, unlisted}
 use Rattle.face.proofs.sweeps.write_fields.Goals as goal
 
 pub returns-then-end-i : goal.returns-then-end-i
@@ -43,76 +42,30 @@ list_if-listed-requires c =
     let a = c.args in
     let l = c.loop-i in
     let E = ap (λ (s : Span). s.end) c.new-span.ensures in
-    let j = l.i + c.idle-idle.result in
-    let p = c.nearest.result.0 in
-    let high : j < min (a.lo + a.m) (32 + a.count) = omega (arith, c.if-end-i.false, c.loop-i-test.true, E, c.requires.0) in
-    let at : p ≡ j - 32 = omega (arith, c.nearest.ensures, high, c.requires.0, l.invariant.0) in
-    let low : a.lo ≤ l.i = omega (arith, l.invariant.0) in
-    let spi : 32 ≤ j = omega (arith, l.invariant.0) in
-    let inside : p < a.count = omega (arith, at, high, spi) in
-    let over : c.idle-idle.result ≡ idle_fields a.bank l.v = c.idle-idle.ensures in
-    let none = not_written a.count a.bank a.value a.lo a.m l.i l.v low l.invariant.2 in
-    let still = idle_here a.count a.bank a.value a.lo a.m l.i l.v low l.invariant.2 in
-    let named =
-    written_next a.count a.bank a.value a.lo a.m l.i l.v low l.invariant.2 j (ap (λ (z : ℕ). l.i + z) over)
-    (omega (arith, over, high, c.requires.2, low)) (omega (arith, high)) (omega (arith, l.invariant.0)) (omega (arith, high)) in
-    let v = c.from_field-v-in-loop-i.ensures ∙ left_at a.count a.bank a.value a.lo a.m l.i l.v low l.invariant.2 c.idle-idle.result in
-    let W = written a.count a.bank a.value a.lo a.m in
-    let done : Done a.explicit a.count a.bank a.value a.lo a.m a.image.now c.requires.0.most c.requires.0.size c.requires.4 j l.image =
-    put_skip W _ a.count a.image.now l.i l.image l.invariant.3 j (omega arith) (λ k q r. none k q (omega (arith, r, over))) in
-    let S = slot_in (32 + p) (record_at l.image p) in
-    let hf : c.low_field.result ≡ field a.bank a.value a.lo j = c.low_field.ensures ∙ ap (λ (z : ℕ). z % 2 ^ bits_of a.bank) v in
-    let t = test a.explicit a.count a.bank a.value a.lo a.m a.image.now a.tells in
-    let fits = table_fits t (max a.lo 32) a.list.now a.count (min (a.lo + a.m) (32 + a.count)) (tells_inside a.explicit a.count a.bank a.value a.lo a.m (table (meant_at a.count a.image.now)) a.tells) c.requires.3 in
-    let told =
-    list_skip t (max a.lo 32) a.list.now (min (a.lo + a.m) (32 + a.count)) fits l.i j l.list l.listed l.invariant.0 (omega arith)
-    (λ k q r. unlisted a.explicit a.count a.bank a.value a.lo a.m a.image.now a.tells k (still k q (omega (arith, r, over)))) l.invariant.4 in
-    let on = ap (λ (y : Bool). a.tells && y)
-    (told_more a.explicit a.count a.bank a.value a.lo a.m a.image.now c.requires.0.most c.requires.0.size c.requires.4 j p c.low_field.result S l.image done at spi inside named hf refl c.write_field-on.result c.write_field-on.ensures.1) in
-    let few = passing_few t 32 (32 + a.count) (tells_inside a.explicit a.count a.bank a.value a.lo a.m (table (meant_at a.count a.image.now)) a.tells) (max a.lo 32) (l.i - max a.lo 32) in (
-      (λ h. list_room t (max a.lo 32) a.list.now (min (a.lo + a.m) (32 + a.count)) fits j l.list l.listed (omega (arith, l.invariant.0)) high told (sym on ∙ h)),
-      omega (arith, l.invariant.4.1, few, c.requires.0),
-    )
+    let high : l.i + c.idle-idle.result < min (a.lo + a.m) (32 + a.count) = omega (arith, c.if-end-i.false, c.loop-i-test.true, E, c.requires.0) in
+    let at : c.nearest.result.0 ≡ l.i + c.idle-idle.result - 32 = omega (arith, c.nearest.ensures, high, c.requires.0, l.invariant.0) in
+    (turned a.explicit a.count a.bank a.lo a.m a.value a.tells a.image.now a.list.now c.requires.0 c.requires.2 c.requires.3 c.requires.4
+    l.i l.v l.listed l.image l.list l.invariant.0 l.invariant.2 l.invariant.3 l.invariant.4
+    c.idle-idle.result c.from_field-v-in-loop-i.result c.low_field.result c.nearest.result.0 c.write_field-on.result c.idle-idle.ensures high at
+    c.from_field-v-in-loop-i.ensures c.low_field.ensures c.write_field-on.ensures.1).room
 
 pub loop-i-preserved : goal.loop-i-preserved
 loop-i-preserved c =
     let a = c.args in
     let l = c.loop-i in
     let E = ap (λ (s : Span). s.end) c.new-span.ensures in
-    let j = l.i + c.idle-idle.result in
-    let p = c.nearest.result.0 in
-    let high : j < min (a.lo + a.m) (32 + a.count) = omega (arith, c.if-end-i.false, c.loop-i-test.true, E, c.requires.0) in
-    let at : p ≡ j - 32 = omega (arith, c.nearest.ensures, high, c.requires.0, l.invariant.0) in
-    let low : a.lo ≤ l.i = omega (arith, l.invariant.0) in
-    let spi : 32 ≤ j = omega (arith, l.invariant.0) in
-    let inside : p < a.count = omega (arith, at, high, spi) in
-    let over : c.idle-idle.result ≡ idle_fields a.bank l.v = c.idle-idle.ensures in
-    let none = not_written a.count a.bank a.value a.lo a.m l.i l.v low l.invariant.2 in
-    let still = idle_here a.count a.bank a.value a.lo a.m l.i l.v low l.invariant.2 in
-    let named =
-    written_next a.count a.bank a.value a.lo a.m l.i l.v low l.invariant.2 j (ap (λ (z : ℕ). l.i + z) over)
-    (omega (arith, over, high, c.requires.2, low)) (omega (arith, high)) (omega (arith, l.invariant.0)) (omega (arith, high)) in
-    let v = c.from_field-v-in-loop-i.ensures ∙ left_at a.count a.bank a.value a.lo a.m l.i l.v low l.invariant.2 c.idle-idle.result in
-    let W = written a.count a.bank a.value a.lo a.m in
-    let done : Done a.explicit a.count a.bank a.value a.lo a.m a.image.now c.requires.0.most c.requires.0.size c.requires.4 j l.image =
-    put_skip W _ a.count a.image.now l.i l.image l.invariant.3 j (omega arith) (λ k q r. none k q (omega (arith, r, over))) in
-    let S = slot_in (32 + p) (record_at l.image p) in
-    let hf : c.low_field.result ≡ field a.bank a.value a.lo j = c.low_field.ensures ∙ ap (λ (z : ℕ). z % 2 ^ bits_of a.bank) v in
-    let t = test a.explicit a.count a.bank a.value a.lo a.m a.image.now a.tells in
-    let fits = table_fits t (max a.lo 32) a.list.now a.count (min (a.lo + a.m) (32 + a.count)) (tells_inside a.explicit a.count a.bank a.value a.lo a.m (table (meant_at a.count a.image.now)) a.tells) c.requires.3 in
-    let told =
-    list_skip t (max a.lo 32) a.list.now (min (a.lo + a.m) (32 + a.count)) fits l.i j l.list l.listed l.invariant.0 (omega arith)
-    (λ k q r. unlisted a.explicit a.count a.bank a.value a.lo a.m a.image.now a.tells k (still k q (omega (arith, r, over)))) l.invariant.4 in
-    let on = ap (λ (y : Bool). a.tells && y)
-    (told_more a.explicit a.count a.bank a.value a.lo a.m a.image.now c.requires.0.most c.requires.0.size c.requires.4 j p c.low_field.result S l.image done at spi inside named hf refl c.write_field-on.result c.write_field-on.ensures.1) in
-    let k : j + 1 - a.lo ≡ j - a.lo + 1 = omega (arith, low) in (
+    let high : l.i + c.idle-idle.result < min (a.lo + a.m) (32 + a.count) = omega (arith, c.if-end-i.false, c.loop-i-test.true, E, c.requires.0) in
+    let at : c.nearest.result.0 ≡ l.i + c.idle-idle.result - 32 = omega (arith, c.nearest.ensures, high, c.requires.0, l.invariant.0) in
+    let next =
+    turned a.explicit a.count a.bank a.lo a.m a.value a.tells a.image.now a.list.now c.requires.0 c.requires.2 c.requires.3 c.requires.4
+    l.i l.v l.listed l.image l.list l.invariant.0 l.invariant.2 l.invariant.3 l.invariant.4
+    c.idle-idle.result c.from_field-v-in-loop-i.result c.low_field.result c.nearest.result.0 c.write_field-on.result c.idle-idle.ensures high at
+    c.from_field-v-in-loop-i.ensures c.low_field.ensures c.write_field-on.ensures.1 in (
       omega (arith, l.invariant.0),
-      one_more j (max a.lo 32) (min (a.lo + a.m) (32 + a.count)) high,
-      rw k (c.above-v.ensures ∙ used (2 ^ bits_of a.bank) a.value c.from_field-v-in-loop-i.result (j - a.lo) v),
-      rw c.write_field-on.ensures.0
-          (stored_more a.explicit a.count a.bank a.value a.lo a.m a.image.now c.requires.0.most c.requires.0.size c.requires.4 j p c.low_field.result S l.image done at spi inside named hf refl _ refl),
-      rw (c.list_if-listed.ensures.0, c.list_if-listed.ensures.1)
-          (list_more t (max a.lo 32) a.list.now (min (a.lo + a.m) (32 + a.count)) fits j l.list l.listed _ (omega (arith, l.invariant.0)) high told on),
+      one_more (l.i + c.idle-idle.result) (max a.lo 32) (min (a.lo + a.m) (32 + a.count)) high,
+      c.above-v.ensures ∙ next.left,
+      rw c.write_field-on.ensures.0 next.stored,
+      rw (c.list_if-listed.ensures.0, c.list_if-listed.ensures.1) next.told,
     )
 
 pub returns-clause-list : goal.returns-clause-list
