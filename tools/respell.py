@@ -86,9 +86,9 @@ def renamings(names):
         if new != name:
             to[name] = new
     # Where a lemma falls together with another name, it is the lemma that moves.
-    taken = {n for n in names if n not in to}
+    taken = {n for n in names if n not in to} | {BY_HAND[n] for n in to if n in BY_HAND}
     for name in sorted(to, key=lambda n: (not names[n], n)):
-        while to[name] in taken:
+        while name not in BY_HAND and to[name] in taken:
             to[name] += "_lem"
         taken.add(to[name])
     return to

@@ -46,7 +46,7 @@ use Rattle.image_model.specs.GoodLaws.{good_all}
 use Rattle.image_model.proofs.FaceLaws.{after_means, after_whole}
 use Rattle.image_model.specs.FaceRefusals.{with_width, core_call}
 use Rattle.image_model.proofs.FaceRefusals.{bad_width_lem, core-answers, core-number}
-use Rattle.image_model.specs.FaceOrder.{Request, Heard, leaves, hears, TypedRequest, AllTyped, on_call_lem, heard_on, named_on, core_step, core_hears, request_names, calls, core_calls}
+use Rattle.image_model.specs.FaceOrder.{Request, Heard, leaves, hears, TypedRequest, AllTyped, on_call, heard_on, named_on, core_step, core_hears, request_names, calls, core_calls}
 
 -- ---- calls, one after another
 
@@ -54,7 +54,7 @@ run-core : (rs : List Request) (d : Distributor) → run core_step rs d ≡ run 
 run-core [] d = refl
 run-core (r ∷ rs) d = go (core_call r.call r.list) (λ e. run-core rs e)
   where
-    go : (o : Option Call) → ((e : Distributor) → run core_step rs e ≡ run step (core_calls rs) e) → run core_step rs (on_call_lem o d) ≡ run step (calls o ++ core_calls rs) d
+    go : (o : Option Call) → ((e : Distributor) → run core_step rs e ≡ run step (core_calls rs) e) → run core_step rs (on_call o d) ≡ run step (calls o ++ core_calls rs) d
     go none rest = rest d
     go (some c) rest = rest (step c d)
 
@@ -114,7 +114,7 @@ module _ (r : Request) (d : Distributor) (kept : Kept d) where
         good : good_image (image_of d) ≡ true
         good = (image_whole d kept).good
 
-        go : (o : Option Call) → core_call r.call r.list ≡ o → leaves r (image_of d) ≡ image_of (on_call_lem o d)
+        go : (o : Option Call) → core_call r.call r.list ≡ o → leaves r (image_of d) ≡ image_of (on_call o d)
         go none e = ap (λ (s : Seen). s.image) (bad_width_lem r.call (image_of d) r.list good e)
         go (some c) e =
             ap (λ (s : Seen). s.image) (core-answers r.call (image_of d) r.list good c e (image_named c d kept))
@@ -123,7 +123,7 @@ module _ (r : Request) (d : Distributor) (kept : Kept d) where
     kept_request : Kept (core_step r d)
     kept_request = go (core_call r.call r.list) refl
       where
-        go : (o : Option Call) → core_call r.call r.list ≡ o → Kept (on_call_lem o d)
+        go : (o : Option Call) → core_call r.call r.list ≡ o → Kept (on_call o d)
         go none e = kept
         go (some c) e = kept_step c d (typed_core r typed c e) kept
 
@@ -238,15 +238,15 @@ module _ (c : ControllerConfig) (n : ℕ) where
         whole = core.whole;
       }
     where
-      stays : (o : Option Call) (d : Distributor) → Settled c n d → Settled c n (on_call_lem o d)
+      stays : (o : Option Call) (d : Distributor) → Settled c n d → Settled c n (on_call o d)
       stays none d ok = ok
       stays (some k) d ok = core.stays k d ok
 
-      keeps : (o : Option Call) (m : Name) (d : Distributor) → Settled c n d → named_on c (table_size n) o m ≡ false → contents m (on_call_lem o d) ≡ contents m d
+      keeps : (o : Option Call) (m : Name) (d : Distributor) → Settled c n d → named_on c (table_size n) o m ≡ false → contents m (on_call o d) ≡ contents m d
       keeps none m d ok e = refl
       keeps (some k) m d ok e = core.keeps k m d ok e
 
-      local : (o : Option Call) (m : Name) (d e : Distributor) → Settled c n d → Settled c n e → contents m d ≡ contents m e → contents m (on_call_lem o d) ≡ contents m (on_call_lem o e)
+      local : (o : Option Call) (m : Name) (d e : Distributor) → Settled c n d → Settled c n e → contents m d ≡ contents m e → contents m (on_call o d) ≡ contents m (on_call o e)
       local none m d e okd oke h = h
       local (some k) m d e okd oke h = core.local k m d e okd oke h
 
@@ -287,8 +287,8 @@ header_first d =
     ap (take 24) (flat_append 8 head (tabulate (λ p. word_of (slot_of d.slots (32 + p))) 0 d.count)) ∙ take_at (flat 8 head) _ 24 (length-flat 8 head)
 
 module _ (d : Distributor) (kept : Kept d) where
-  abbrev pub named_here_lem : Request → Name → Bool
-  named_here_lem = request_names d.config (size d)
+  abbrev pub named_here : Request → Name → Bool
+  named_here = request_names d.config (size d)
 
   here : Settled d.config d.count d
   here = record { config = refl; count = refl }
@@ -296,15 +296,15 @@ module _ (d : Distributor) (kept : Kept d) where
   there : (rs : List Request) → Settled d.config d.count (run core_step rs d)
   there rs = settled_run d.config d.count rs d here
 
-  replayed : (rs : List Request) (m : Name) → contents m (run core_step rs d) ≡ contents m (run core_step (naming named_here_lem m rs) d)
-  replayed rs m = replay named_here_lem core_step core_hears contents (Settled d.config d.count) (request_footprint d.config d.count) m rs d here
+  replayed : (rs : List Request) (m : Name) → contents m (run core_step rs d) ≡ contents m (run core_step (naming named_here m rs) d)
+  replayed rs m = replay named_here core_step core_hears contents (Settled d.config d.count) (request_footprint d.config d.count) m rs d here
 
   -- REPLAY. After any requests, each of the 8 bytes of an SPI is what running only those that name the SPI gives
   pub replay_bytes : (rs : List Request) → AllTyped rs → (p : ℕ) → p < d.count → (j : ℕ) → j < 8
-      → get_or (run leaves rs (image_of d)) (24 + 8 * p + j) 0 ≡ get_or (run leaves (naming named_here_lem (spi (32 + p)) rs) (image_of d)) (24 + 8 * p + j) 0
+      → get_or (run leaves rs (image_of d)) (24 + 8 * p + j) 0 ≡ get_or (run leaves (naming named_here (spi (32 + p)) rs) (image_of d)) (24 + 8 * p + j) 0
   replay_bytes rs all p less j h =
-      let qs = naming named_here_lem (spi (32 + p)) rs in
-      let few = naming_typed named_here_lem (spi (32 + p)) rs all in
+      let qs = naming named_here (spi (32 + p)) rs in
+      let few = naming_typed named_here (spi (32 + p)) rs all in
       let one = run core_step rs d in
       let two = run core_step qs d in
       let slot : slot_of one.slots (32 + p) ≡ slot_of two.slots (32 + p) = slot_same one.slots two.slots (32 + p) (omega arith) (replayed rs (spi (32 + p))) in
@@ -321,10 +321,10 @@ module _ (d : Distributor) (kept : Kept d) where
           ∙ ap (byte_of j) (record_there e k p (rw (there qs).count less))
 
   -- and the header what running only those that name the switch gives
-  pub replay_header : (rs : List Request) → AllTyped rs → take 24 (run leaves rs (image_of d)) ≡ take 24 (run leaves (naming named_here_lem the_switch rs) (image_of d))
+  pub replay_header : (rs : List Request) → AllTyped rs → take 24 (run leaves rs (image_of d)) ≡ take 24 (run leaves (naming named_here the_switch rs) (image_of d))
   replay_header rs all =
-      let qs = naming named_here_lem the_switch rs in
-      head rs all ∙ ap (λ (on : Bool). flat 8 (header_words d.config on d.count)) (replayed rs the_switch) ∙ sym (head qs (naming_typed named_here_lem the_switch rs all))
+      let qs = naming named_here the_switch rs in
+      head rs all ∙ ap (λ (on : Bool). flat 8 (header_words d.config on d.count)) (replayed rs the_switch) ∙ sym (head qs (naming_typed named_here the_switch rs all))
     where
       head : (qs : List Request) → AllTyped qs → take 24 (run leaves qs (image_of d)) ≡ flat 8 (header_words d.config (run core_step qs d).switch d.count)
       head qs typed =
@@ -336,12 +336,12 @@ module _ (d : Distributor) (kept : Kept d) where
 
   -- REORDERING. Two lists of requests, matched one to one, each with the same, so that every two that name an SPI or the switch in common
   -- keep their order: the images at the end are equal, and each request hears what its partner hears
-  pub reorder_images : (xs ys : List Request) → AllTyped xs → (m : Matching named_here_lem xs ys)
+  pub reorder_images : (xs ys : List Request) → AllTyped xs → (m : Matching named_here xs ys)
       → (run leaves xs (image_of d) ≡ run leaves ys (image_of d))
       × ((i : ℕ) → i < length xs → get_elem? (answers leaves hears xs (image_of d)) i ≡ get_elem? (answers leaves hears ys (image_of d)) (m.to i))
   reorder_images xs ys all m =
-      let ally = matched_typed named_here_lem xs ys m all in
-      let (state, told-so) = reordered named_here_lem core_step core_hears contents (Settled d.config d.count) (request_footprint d.config d.count) xs ys m d here in (
+      let ally = matched_typed named_here xs ys m all in
+      let (state, told-so) = reordered named_here core_step core_hears contents (Settled d.config d.count) (request_footprint d.config d.count) xs ys m d here in (
         images xs d kept all ∙ ap image_of state ∙ sym (images ys d kept ally),
         (λ i h. ap (λ (l : List Heard). get_elem? l i) (heard xs d kept all) ∙ told-so i h ∙ sym (ap (λ (l : List Heard). get_elem? l (m.to i)) (heard ys d kept ally))),
       )

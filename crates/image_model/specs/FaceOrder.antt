@@ -39,9 +39,9 @@ AllTyped rs = (j : ℕ) (r : Request) → get_elem? rs j ≡ some r → TypedReq
 
 -- ---- the same of the core: a call whose width is none is no call of the core, and names nothing
 
-abbrev pub on_call_lem : Option Call → Distributor → Distributor
-on_call_lem none d = d
-on_call_lem (some c) d = step c d
+abbrev pub on_call : Option Call → Distributor → Distributor
+on_call none d = d
+on_call (some c) d = step c d
 
 abbrev pub heard_on : Option Call → List ℕ → Distributor → Heard
 heard_on none list d = record { told = bad_width; list = list }
@@ -52,7 +52,7 @@ named_on c n none m = false
 named_on c n (some k) m = names c n k m
 
 abbrev pub core_step : Request → Distributor → Distributor
-core_step r d = on_call_lem (core_call r.call r.list) d
+core_step r d = on_call (core_call r.call r.list) d
 
 abbrev pub core_hears : Request → Distributor → Heard
 core_hears r d = heard_on (core_call r.call r.list) r.list d
