@@ -21,44 +21,11 @@ each P one two eight all (Replace Priority) = eight
 each P one two eight all (Replace Configuration) = two
 each P one two eight all (Replace Field.Route) = all
 
-pub bits_range : (b : Bank) → (1 ≤ bits_of b) × (bits_of b ≤ 64)
-bits_range b = each (λ k. (1 ≤ k) × (k ≤ 64)) (omega arith) (omega arith) (omega arith) (omega arith) b
-
--- a bank that has not fewer than 64 bits for each INTID has 64
-module _ (b : Bank) (wide : 64 ≤ bits_of b) where
-  all_bits : bits_of b ≡ 64
-  all_bits = omega (arith, bits_range b)
-
-  pub whole_low : (v : ℕ) → v < 2 ^ 64 → v ≡ v % 2 ^ bits_of b
-  whole_low v h = rw all_bits (omega arith)
-
-  pub none_above : (v : ℕ) → v < 2 ^ 64 → 0 ≡ v / 2 ^ bits_of b
-  none_above v h = rw all_bits (omega arith)
-
-  pub whole_below : (a f : ℕ) → f < 2 ^ 64 → f ≡ a % 2 ^ (64 - bits_of b) * 2 ^ bits_of b + f % 2 ^ bits_of b
-  whole_below a f h = rw all_bits (omega arith)
-
--- a shift to the left drops what 64 bits have no room for; shifted to the right and back, a value has lost its lowest field
-pub shifted_up : (b : Bank) (a : ℕ) → a * 2 ^ bits_of b % 2 ^ 64 ≡ a % 2 ^ (64 - bits_of b) * 2 ^ bits_of b
-shifted_up b a = each (λ k. a * 2 ^ k % 2 ^ 64 ≡ a % 2 ^ (64 - k) * 2 ^ k) (omega arith) (omega arith) (omega arith) (omega arith) b
-
-pub shifted_back : (b : Bank) (v : ℕ) → v < 2 ^ 64 → (v / 2 ^ bits_of b * 2 ^ bits_of b % 2 ^ 64 ≤ v) × (v - v / 2 ^ bits_of b * 2 ^ bits_of b % 2 ^ 64 ≡ v % 2 ^ bits_of b)
-shifted_back b v h =
-    each (λ k. (v / 2 ^ k * 2 ^ k % 2 ^ 64 ≤ v) × (v - v / 2 ^ k * 2 ^ k % 2 ^ 64 ≡ v % 2 ^ k))
-    (omega arith, omega arith) (omega arith, omega arith) (omega arith, omega arith) (omega arith, omega arith) b
-
 -- the fields from the k-th on
 pub past_fields : (b : Bank) (v k : ℕ) → v < 2 ^ 64 → 64 ≤ bits_of b * k → 0 ≡ v / (2 ^ bits_of b) ^ k
 past_fields b v k h l =
     let wide : 2 ^ 64 ≤ 2 ^ (bits_of b * k) = pow_mono {i = 64} {j = bits_of b * k} l in
     rw (pow-pow (bits_of b) k) (sym (div-eq_of_lt (lt_of_lt_of_le h wide)))
-
-pub few_bits : (b : Bank) (k : ℕ) → k < 2 ^ 32 → bits_of b * k < 2 ^ 64
-few_bits b k h = each (λ j. j * k < 2 ^ 64) (omega arith) (omega arith) (omega arith) (omega arith) b
-
--- a field below others, in 64 bits
-pub below_fits : (b : Bank) (a f : ℕ) → a % 2 ^ (64 - bits_of b) * 2 ^ bits_of b + f % 2 ^ bits_of b < 2 ^ 64
-below_fits b a f = each (λ k. a % 2 ^ (64 - k) * 2 ^ k + f % 2 ^ k < 2 ^ 64) (omega arith) (omega arith) (omega arith) (omega arith) b
 
 pub below_same : (b : Bank) (a f : ℕ) → a * 2 ^ bits_of b + f < 2 ^ 64 → f < 2 ^ bits_of b
     → a % 2 ^ (64 - bits_of b) * 2 ^ bits_of b + f % 2 ^ bits_of b ≡ a * 2 ^ bits_of b + f

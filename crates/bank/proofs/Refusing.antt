@@ -5,9 +5,8 @@ use mathlib.Core.Bool.{Bool, true, false, not, ◌&&◌, ◌||◌, and-false}
 use mathlib.Core.List.{[], ◌∷◌}
 use native.Mathlib.Numerals.{add-one}
 use native.Mathlib.Omega.{arith}
-use borrow.Author.Tests.{ltb-true, leb-true, lt-leb}
+use borrow.Author.Tests.{leb-true, lt-leb}
 use lib.Dec.{leb}
-use Rattle.theory.specs.Bools.{both}
 use Rattle.theory.specs.Lists.{passing}
 use Rattle.theory.specs.ListLaws.{passing_more, passing_split, passing_same, passing_agree, passing_never}
 use Rattle.bank.specs.declared.bank.Field.{Field}
@@ -24,10 +23,6 @@ pub refuses : (b : Bank) (value lo j v f n : ℕ) (e x y : Bool)
 refuses b value lo j v f n e x y hv hf hx hy =
     let q : f ≡ field b value lo (lo + j) = hf ∙ field_at b value v lo j hv in
     rw (hx, hy, q)
-
--- an INTID beyond the table could be an SPI's
-pub beyond_small : (e : Bool) (n i : ℕ) → beyond_table e n i ≡ true → i < 1020
-beyond_small e n i h = ltb-true i 1020 (both (leb (32 + n) i) _ (both e _ h).1).1
 
 module _ (t : ℕ → Bool) (lo j : ℕ) (none : passing t lo j ≡ []) where
   pub none_more : t (lo + j) ≡ false → passing t lo (j + 1) ≡ []

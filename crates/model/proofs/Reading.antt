@@ -27,9 +27,6 @@ room b k m h l =
     let p : bits_of b * k ≤ bits_of b * m = mul-le-mul_left (bits_of b) l in
     rw (pow-pow (bits_of b) k) (pow_mono {i = bits_of b * k} {j = 64} (omega arith))
 
-pub one_less : (f i : ℕ) → f < i → i - 1 < i
-one_less f i h = omega arith
-
 -- the loop stands at i, and has read the fields from i up to below end
 module _ (b : Bank) (t : ℕ → ℕ) (i end v f : ℕ) (low : 0 < i) (high : i ≤ end) where
   turns : end - (i - 1) ≡ suc (end - i)

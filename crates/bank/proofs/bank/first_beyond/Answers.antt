@@ -1,5 +1,5 @@
 -- The test of one INTID is the definition's, so the first that is refused is the first of all, and one that is not adds none.
-use Rattle.std.proofs.Common.{◌≡◌, sym, ◌∙◌, ◌^◌, arith}
+use Rattle.std.proofs.Common.{sym, ◌∙◌, ◌^◌, arith}
 use Rattle.bank.specs.Banks.{bits_of, refused_over}
 use Rattle.bank.proofs.Refusing.{refuses, none_more, first_found}
 use Rattle.bank.proofs.Digits.{used}
