@@ -1,41 +1,64 @@
-// What the guest's reads and writes answer.
-ghost use Rattle.std.specs.Prelude.{◌≡◌, ◌∷◌, []};
-ghost use Rattle.identifiers.specs.Answer.{done, unless};
-ghost use Rattle.bank.specs.Banks.{told_beyond};
-ghost use Rattle.answers.specs.Answers.{told_read, told_write};
+// What calls answer: what they hand out where they are done, and what a guest's access to a bank answers.
+ghost use Rattle.std.specs.Prelude.{◌≡◌, ℕ, List, [], ◌∷◌, get_or};
+ghost use Rattle.answers.specs.Answers.{state_values, answered};
 
-use bank::bank::Beyond;
+use attributes::attributes::InterruptState;
 use identifiers::error::Refusal;
 
-#[derive(Clone, Copy)]
-pub enum ReadAnswer {
-    Done(u64),
-    Refused(Refusal),
+// What a call hands out, as numbers.
+pub trait Values {
+    ghost values: { Self → List ℕ };
+
+    // The first number, or 0 where there is none.
+    fn first(self) -> u64
+        ensures { result ≡ get_or (values self) 0 0 };
 }
 
-#[derive(Clone, Copy)]
-pub enum WriteAnswer {
-    // How many candidates stand in the first places of the list.
-    Done(usize),
-    Refused(Refusal),
-}
+// A creation, and a change of the host that gives nothing back.
+impl Values for () {
+    ghost values = { λ x. [] };
 
-// What a read of a bank answers: its value, or refusal 1 beyond the table.
-pub fn read_answer(beyond: Beyond, value: u64) -> ReadAnswer
-    ensures { told_read result ≡ unless (told_beyond beyond) (done (value ∷ [])) }
-{
-    match beyond {
-        Beyond::Nothing => ReadAnswer::Done(value),
-        Beyond::At(i) => ReadAnswer::Refused(Refusal::InvalidIntId(i)),
+    fn first(self) -> u64 {
+        0
     }
 }
 
-// What a write to a bank answers: how many candidates it lists, or refusal 1 beyond the table.
-pub fn write_answer(beyond: Beyond, count: usize) -> WriteAnswer
-    ensures { told_write result ≡ unless (told_beyond beyond) (done (count ∷ [])) }
+// A read.
+impl Values for u64 {
+    ghost values = { λ n. n ∷ [] };
+
+    fn first(self) -> u64 {
+        self
+    }
+}
+
+// A write: how many candidates it lists.
+impl Values for usize {
+    ghost values = { λ n. n ∷ [] };
+
+    fn first(self) -> u64 {
+        self as u64
+    }
+}
+
+// A change of the host: the merged state of a synchronisation.
+impl Values for Option<InterruptState> {
+    ghost values = { state_values };
+
+    fn first(self) -> u64 {
+        match self {
+            Some(state) => state.number(),
+            None => 0,
+        }
+    }
+}
+
+// What was read, or how many candidates a write lists; or refusal 1, carrying the lowest INTID beyond the table.
+pub fn unless_beyond<T: Drop>(beyond: Option<u32>, value: T) -> Result<T, Refusal>
+    ensures { result ≡ answered beyond value }
 {
     match beyond {
-        Beyond::Nothing => WriteAnswer::Done(count),
-        Beyond::At(i) => WriteAnswer::Refused(Refusal::InvalidIntId(i)),
+        Some(i) => Err(Refusal::InvalidIntId(i)),
+        None => Ok(value),
     }
 }

@@ -1,5 +1,5 @@
 -- Trigger modes, and the four states that pending and active make.
-use Rattle.std.specs.Prelude.{ℕ, Bool, true, false}
+use Rattle.std.specs.Prelude.{ℕ, Bool, true, false, cond}
 use Rattle.attributes.specs.declared.attributes.TriggerMode.{TriggerMode}
 use Rattle.attributes.specs.declared.attributes.TriggerMode.TheVariants.{Edge, Level}
 use Rattle.attributes.specs.declared.attributes.InterruptState.{InterruptState}
@@ -8,6 +8,9 @@ use Rattle.attributes.specs.declared.attributes.InterruptState.TheVariants.{Inac
 abbrev pub level_of : TriggerMode → Bool
 level_of Edge = false
 level_of Level = true
+
+abbrev pub trigger_of : Bool → TriggerMode
+trigger_of edge = cond edge Edge Level
 
 abbrev pub pending_of : InterruptState → Bool
 pending_of Inactive = false

@@ -1,10 +1,10 @@
 // What an interrupt has besides its identifier: affinity, priority, trigger and state.
 ghost use Rattle.std.specs.Prelude.{◌≡◌};
 ghost use Rattle.attributes.specs.Affinity.{affinity, from_mpidr, mpidr_of};
-ghost use Rattle.attributes.specs.States.{pending_of, active_of, state_of, level_of};
+ghost use Rattle.attributes.specs.States.{pending_of, active_of, state_of, state_number, level_of, trigger_of};
 
 // A core's address in four levels of one byte, in the order in which an image has them.
-#[derive(Clone, Copy)]
+#[derive(Clone, Copy, Debug, PartialEq, Eq, PartialOrd, Ord)]
 pub struct GicAffinity {
     aff0: u8,
     aff1: u8,
@@ -17,10 +17,10 @@ impl GicAffinity {
         ensures { result ≡ affinity aff3 aff2 aff1 aff0 }
     {
         GicAffinity {
-            aff3: aff3,
-            aff2: aff2,
-            aff1: aff1,
-            aff0: aff0,
+            aff3,
+            aff2,
+            aff1,
+            aff0,
         }
     }
 
@@ -71,7 +71,7 @@ impl GicAffinity {
 }
 
 // A priority: the lower the number, the sooner the interrupt is taken.
-#[derive(Clone, Copy)]
+#[derive(Clone, Copy, Debug, PartialEq, Eq, PartialOrd, Ord)]
 pub struct Priority(u8);
 
 impl Priority {
@@ -91,25 +91,33 @@ impl Priority {
 }
 
 // How the line of a wired interrupt speaks.
-#[derive(Clone, Copy)]
+#[derive(Clone, Copy, Debug, PartialEq, Eq)]
 pub enum TriggerMode {
     Edge,
     Level,
 }
 
 impl TriggerMode {
+    // Edge-triggered, or level-sensitive.
+    pub fn of(edge: bool) -> Self
+        ensures { result ≡ trigger_of edge }
+    {
+        if edge {
+            TriggerMode::Edge
+        } else {
+            TriggerMode::Level
+        }
+    }
+
     pub fn is_level(self) -> bool
         ensures { result ≡ level_of self }
     {
-        match self {
-            TriggerMode::Edge => false,
-            TriggerMode::Level => true,
-        }
+        matches!(self, TriggerMode::Level)
     }
 }
 
 // Where an interrupt stands in its life, as Arm's document names it.
-#[derive(Clone, Copy)]
+#[derive(Clone, Copy, Debug, PartialEq, Eq)]
 pub enum InterruptState {
     Inactive,
     Pending,
@@ -121,38 +129,33 @@ impl InterruptState {
     pub fn of(pending: bool, active: bool) -> Self
         ensures { result ≡ state_of pending active }
     {
-        if active {
-            if pending {
-                InterruptState::ActivePending
-            } else {
-                InterruptState::Active
-            }
-        } else if pending {
-            InterruptState::Pending
-        } else {
-            InterruptState::Inactive
+        match (pending, active) {
+            (false, false) => InterruptState::Inactive,
+            (true, false) => InterruptState::Pending,
+            (false, true) => InterruptState::Active,
+            (true, true) => InterruptState::ActivePending,
         }
     }
 
     pub fn is_pending(self) -> bool
         ensures { result ≡ pending_of self }
     {
-        match self {
-            InterruptState::Inactive => false,
-            InterruptState::Pending => true,
-            InterruptState::Active => false,
-            InterruptState::ActivePending => true,
-        }
+        matches!(
+            self,
+            InterruptState::Pending | InterruptState::ActivePending
+        )
     }
 
     pub fn is_active(self) -> bool
         ensures { result ≡ active_of self }
     {
-        match self {
-            InterruptState::Inactive => false,
-            InterruptState::Pending => false,
-            InterruptState::Active => true,
-            InterruptState::ActivePending => true,
-        }
+        matches!(self, InterruptState::Active | InterruptState::ActivePending)
+    }
+
+    // Its number where numbers are told: 1 where it is pending, and 2 more where it is active.
+    pub fn number(self) -> u64
+        ensures { result ≡ state_number self }
+    {
+        self as u64
     }
 }

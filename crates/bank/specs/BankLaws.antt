@@ -1,11 +1,9 @@
 -- Laws of packed fields, and of what is answered beyond the table.
-use Rattle.std.specs.Prelude.{ℕ, zero, suc, ◌+◌, ◌-◌, ◌^◌, ◌≤◌, ◌<◌, min, ◌≡◌, refl}
+use Rattle.std.specs.Prelude.{ℕ, zero, suc, ◌+◌, ◌-◌, ◌^◌, ◌≤◌, ◌<◌, min, ◌≡◌, refl, Option, Some, None}
 use Rattle.std.proofs.Common.{ap, zero-mul, arith}
 use Rattle.std.proofs.Math.Logic.{by_cases}
 use Rattle.std.proofs.Math.Decide.{dec_le}
 use Rattle.bank.specs.declared.bank.Bank.{Bank}
-use Rattle.bank.specs.declared.bank.Beyond.{Beyond}
-use Rattle.bank.specs.declared.bank.Beyond.TheVariants.{Nothing, At}
 use Rattle.bank.specs.Banks.{bits_of, packed, told_beyond}
 
 -- packed fields rest on the fields that are packed
@@ -39,8 +37,8 @@ pub packed_under : (b : Bank) (t : ℕ → ℕ) (lo m : ℕ) → ((i : ℕ) → 
 packed_under b t lo m h l = packed_none b t lo m (λ i p q. h i (omega arith))
 
 -- no two answers of the search beyond the table are told alike
-pub told_beyond_lem : (a b : Beyond) → told_beyond a ≡ told_beyond b → a ≡ b
-told_beyond_lem Nothing Nothing e = refl
-told_beyond_lem Nothing (At j) e = cc
-told_beyond_lem (At i) Nothing e = cc
-told_beyond_lem (At i) (At j) e = let p : i ≡ j = cc in ap At p
+pub told_beyond_lem : (a b : Option ℕ) → told_beyond a ≡ told_beyond b → a ≡ b
+told_beyond_lem None None e = refl
+told_beyond_lem None (Some j) e = cc
+told_beyond_lem (Some i) None e = cc
+told_beyond_lem (Some i) (Some j) e = let p : i ≡ j = cc in ap Some p

@@ -5,7 +5,7 @@
 --     ISPENDR    Set Pending     ICPENDR    Clear Pending     IPRIORITYR  Replace Priority
 --     ISACTIVER  Set Active      ICACTIVER  Clear Active      ICFGR       Replace Configuration
 --                                                             IROUTER     Replace Route
-use Rattle.std.specs.Prelude.{ℕ, zero, suc, ◌-◌, ◌*◌, ◌+◌, ◌/◌, ◌%◌, ◌^◌, Bool, true, false, not, ◌&&◌, cond, List, [], ◌∷◌, leb, eqb}
+use Rattle.std.specs.Prelude.{ℕ, zero, suc, ◌-◌, ◌*◌, ◌+◌, ◌/◌, ◌%◌, ◌^◌, Bool, true, false, not, ◌&&◌, cond, List, [], ◌∷◌, leb, eqb, Option, Some, None}
 use mir.Val.{bool_byte}
 use Rattle.std.specs.Int.Count.{count_trailing_zeros}
 use Rattle.place.specs.Table.{beyond_table}
@@ -13,9 +13,6 @@ use Rattle.attributes.specs.Affinity.{mpidr_of}
 use Rattle.interrupt.specs.Records.{route_in}
 use Rattle.attributes.specs.declared.attributes.TriggerMode.{TriggerMode}
 use Rattle.interrupt.specs.declared.interrupt.InterruptRecord.{InterruptRecord}
-use Rattle.interrupt.specs.declared.interrupt.Route.{Route}
-use Rattle.bank.specs.declared.bank.Beyond.{Beyond}
-use Rattle.bank.specs.declared.bank.Beyond.TheVariants.{Nothing, At}
 use Rattle.bank.specs.declared.bank.Flag.{Flag}
 use Rattle.bank.specs.declared.bank.Flag.TheVariants.{Enabled, Pending, Active}
 use Rattle.bank.specs.declared.bank.Field.{Field}
@@ -23,6 +20,7 @@ use Rattle.bank.specs.declared.bank.Field.TheVariants.{Group, Priority, Configur
 use Rattle.bank.specs.declared.bank.FieldRule.{FieldRule}
 use Rattle.bank.specs.declared.bank.Bank.{Bank}
 use Rattle.bank.specs.declared.bank.Bank.TheVariants.{Set, Clear, Replace}
+use Rattle.attributes.specs.declared.attributes.GicAffinity.{GicAffinity}
 
 -- ---- a row for each field and each flag
 
@@ -53,9 +51,9 @@ clear_lists Active = true
 abbrev pub bit : Bool → ℕ
 bit b = bool_byte b
 
-abbrev pub route_bits : Route → ℕ
-route_bits (Route.To a) = mpidr_of a
-route_bits Route.Unset = 0
+abbrev pub route_bits : Option GicAffinity → ℕ
+route_bits (Some a) = mpidr_of a
+route_bits None = 0
 
 -- ICFGR: 2 for edge, 0 for level; of a written field the upper bit of the two says edge
 abbrev pub edge_field : TriggerMode → ℕ
@@ -142,11 +140,11 @@ abbrev pub first_of : List ℕ → List ℕ
 first_of [] = []
 first_of (i ∷ is) = i ∷ []
 
-abbrev pub told_beyond : Beyond → List ℕ
-told_beyond Nothing = []
-told_beyond (At i) = i ∷ []
+abbrev pub told_beyond : Option ℕ → List ℕ
+told_beyond None = []
+told_beyond (Some i) = i ∷ []
 
 -- whether a write lists candidates: not where it is refused
-abbrev pub lists_unless : Beyond → Bool
-lists_unless Nothing = true
-lists_unless (At i) = false
+abbrev pub lists_unless : Option ℕ → Bool
+lists_unless None = true
+lists_unless (Some i) = false

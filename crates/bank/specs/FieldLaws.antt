@@ -1,5 +1,5 @@
 -- What a bank shows fits its fields.
-use Rattle.std.specs.Prelude.{ℕ, zero, suc, ◌+◌, ◌-◌, ◌*◌, ◌/◌, ◌%◌, ◌^◌, ◌≤◌, ◌<◌, ◌≡◌, Bool, true, false, cond}
+use Rattle.std.specs.Prelude.{IfSome, ℕ, zero, suc, ◌+◌, ◌-◌, ◌*◌, ◌/◌, ◌%◌, ◌^◌, ◌≤◌, ◌<◌, ◌≡◌, Bool, true, false, cond, Some, None, Option}
 use Rattle.std.proofs.Common.{sym, ap, ◌∙◌, mul_comm, mul-le-mul_right, mul-suc, suc-mul, mul-zero, pow-suc, div-one, arith, pow-add}
 use Rattle.std.proofs.Math.Logic.{by_cases}
 use Rattle.std.proofs.Math.Decide.{dec_lt}
@@ -10,12 +10,12 @@ use Rattle.attributes.specs.AffinityLaws.{Bytes}
 use Rattle.attributes.specs.declared.attributes.TriggerMode.{TriggerMode}
 use Rattle.interrupt.specs.Records.{route_in}
 use Rattle.interrupt.specs.declared.interrupt.InterruptRecord.{InterruptRecord}
-use Rattle.interrupt.specs.declared.interrupt.Route.{Route}
 use Rattle.bank.specs.declared.bank.Bank.{Bank}
 use Rattle.bank.specs.declared.bank.Field.{Field}
 use Rattle.bank.specs.declared.bank.Field.TheVariants.{Group, Priority, Configuration}
 use Rattle.bank.specs.declared.bank.Bank.TheVariants.{Set, Clear, Replace}
 use Rattle.bank.specs.Banks.{bits_of, field, route_bits, flag_in, edge_field, shown, packed}
+use Rattle.attributes.specs.declared.attributes.GicAffinity.{GicAffinity}
 
 pub pow-pow : (a m : ℕ) → (2 ^ a) ^ m ≡ 2 ^ (a * m)
 pow-pow a zero = rw (mul-zero a, pow-zero (2 ^ a))
@@ -51,15 +51,15 @@ pub edge_fits : (t : TriggerMode) → edge_field t < 4
 edge_fits TriggerMode.Edge = omega arith
 edge_fits TriggerMode.Level = omega arith
 
-route_fits : (r : InterruptRecord) → Bytes r.route → shown (Replace Field.Route) r < 2 ^ 64
+route_fits : (r : InterruptRecord) → IfSome r.route Bytes → shown (Replace Field.Route) r < 2 ^ 64
 unfolding route_in
-route_fits r h = go r.routed
+route_fits r h = go r.route h
   where
-    go : (b : Bool) → route_bits (cond b (Route.To r.route) Route.Unset) < 2 ^ 64
-    go true = omega arith
-    go false = omega arith
+    go : (o : Option GicAffinity) → IfSome o Bytes → route_bits o < 2 ^ 64
+    go (Some a) b = omega arith
+    go None b = omega arith
 
-pub shown_fits : (b : Bank) (r : InterruptRecord) → r.priority.0 < 256 → Bytes r.route → shown b r < 2 ^ bits_of b
+pub shown_fits : (b : Bank) (r : InterruptRecord) → r.priority.0 < 256 → IfSome r.route Bytes → shown b r < 2 ^ bits_of b
 shown_fits (Set f) r p h = bit_fits (flag_in f r)
 shown_fits (Clear f) r p h = bit_fits (flag_in f r)
 shown_fits (Replace Group) r p h = omega arith

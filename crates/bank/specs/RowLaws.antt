@@ -1,6 +1,6 @@
 -- The rows of the banks in the guest's words: each law says what Arm's manual, or the base's rule, says of a bank by its name. A row
 -- that is wrong in the definitions and in the code alike breaks one of them.
-use Rattle.std.specs.Prelude.{ℕ, zero, suc, ◌*◌, ◌/◌, ◌<◌, ◌≡◌, refl, Bool, true, false, ◌&&◌, cond, eqb}
+use Rattle.std.specs.Prelude.{ℕ, zero, suc, ◌*◌, ◌/◌, ◌<◌, ◌≡◌, refl, Bool, true, false, ◌&&◌, cond, eqb, Some, None, Option, unwrap_or, option_map}
 use mathlib.Core.List.{List, [], ◌∷◌, map, Memᴰ}
 use Rattle.std.proofs.Common.{arith}
 use Rattle.attributes.specs.Affinity.{mpidr_of}
@@ -9,7 +9,6 @@ use Rattle.attributes.specs.declared.attributes.TriggerMode.{TriggerMode}
 use Rattle.life.specs.Life.{enabled_to, active_to}
 use Rattle.interrupt.specs.Records.{with_life, line_pulsed, deliverable_in, priority_to, trigger_to, route_in}
 use Rattle.interrupt.specs.declared.interrupt.InterruptRecord.{InterruptRecord}
-use Rattle.interrupt.specs.declared.interrupt.Route.{Route}
 use Rattle.bank.specs.declared.bank.Flag.{Flag}
 use Rattle.bank.specs.declared.bank.Flag.TheVariants.{Enabled, Pending, Active}
 use Rattle.bank.specs.declared.bank.Field.{Field}
@@ -17,6 +16,7 @@ use Rattle.bank.specs.declared.bank.Field.TheVariants.{Group, Priority, Configur
 use Rattle.bank.specs.declared.bank.Bank.{Bank}
 use Rattle.bank.specs.declared.bank.Bank.TheVariants.{Set, Clear, Replace}
 use Rattle.bank.specs.Banks.{bit, route_bits, edge_field, trigger_in, bits_of, shown, acts, lists, read_refuses, write_refuses}
+use Rattle.attributes.specs.declared.attributes.GicAffinity.{GicAffinity}
 
 -- ---- the ten banks
 
@@ -153,10 +153,10 @@ upper_bit (suc (suc (suc zero))) h = refl
 upper_bit (suc (suc (suc (suc v)))) h = absurd (omega arith)
 
 -- IROUTER shows the route's affinity, or 0 where there is none
-pub route_shown : (r : InterruptRecord) → shown IROUTER r ≡ cond r.routed (mpidr_of r.route) 0
+pub route_shown : (r : InterruptRecord) → shown IROUTER r ≡ unwrap_or (option_map mpidr_of r.route) 0
 unfolding route_in
-route_shown r = go r.routed
+route_shown r = go r.route
   where
-    go : (b : Bool) → route_bits (cond b (Route.To r.route) Route.Unset) ≡ cond b (mpidr_of r.route) 0
-    go true = refl
-    go false = refl
+    go : (o : Option GicAffinity) → route_bits o ≡ unwrap_or (option_map mpidr_of o) 0
+    go (Some a) = refl
+    go None = refl

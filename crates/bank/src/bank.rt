@@ -5,12 +5,12 @@ ghost use Rattle.theory.specs.Lists.{passing};
 ghost use Rattle.place.specs.Table.{beyond_table};
 ghost use Rattle.bank.specs.Banks.{rule, rule_of, bits_of, idle_fields, route_bits, flag_in, field_in, shown, acts, trigger_in, edge_field, set_lists, clear_lists, lists, read_refuses, ignores_beyond, write_refuses, refused_over, told_beyond, lists_unless, first_of};
 
-use attributes::attributes::TriggerMode;
-use interrupt::interrupt::{InterruptRecord, Route};
+use attributes::attributes::{GicAffinity, TriggerMode};
+use interrupt::interrupt::InterruptRecord;
 use place::place::is_beyond;
 
 // A flag of an interrupt. Two banks show it: a write to the one sets it, to the other clears it.
-#[derive(Clone, Copy)]
+#[derive(Clone, Copy, Debug, PartialEq, Eq)]
 pub enum Flag {
     Enabled,
     Pending,
@@ -18,7 +18,7 @@ pub enum Flag {
 }
 
 // What a bank with one field for each INTID holds.
-#[derive(Clone, Copy)]
+#[derive(Clone, Copy, Debug, PartialEq, Eq)]
 pub enum Field {
     Group,
     Priority,
@@ -27,7 +27,7 @@ pub enum Field {
 }
 
 // What holds of a field, whoever's it is.
-#[derive(Clone, Copy)]
+#[derive(Clone, Copy, Debug, PartialEq, Eq)]
 pub struct FieldRule {
     // The bits for each INTID.
     bits: u64,
@@ -41,7 +41,7 @@ pub struct FieldRule {
 }
 
 // A bank holds a field of the same width for each INTID. Arm's names for them:
-#[derive(Clone, Copy)]
+#[derive(Clone, Copy, Debug, PartialEq, Eq)]
 pub enum Bank {
     // ISENABLER, ISPENDR, ISACTIVER: writing 1 sets the flag.
     Set(Flag),
@@ -51,58 +51,49 @@ pub enum Bank {
     Replace(Field),
 }
 
-// The lowest INTID over which an access is refused, if there is one.
-#[derive(Clone, Copy)]
-pub enum Beyond {
-    Nothing,
-    At(u32),
-}
-
 // The lowest of the m INTIDs from lo on over which a write of the value is refused, field by field.
-fn first_beyond(explicit: bool, n: u32, bank: Bank, value: u64, lo: u32, m: u32) -> Beyond
+fn first_beyond(explicit: bool, n: u32, bank: Bank, value: u64, lo: u32, m: u32) -> Option<u32>
     ensures { told_beyond result ≡ first_of (passing (refused_over explicit n bank value lo) lo m) }
 {
     let mut v = value;
-    let mut j: u32 = 0;
-    while j < m {
+    for j in 0..m {
         let i = lo as u64 + j as u64;
         if bank.write_refuses(bank.low_field(v)) & is_beyond(explicit, n, i) {
-            return Beyond::At(i as u32);
+            return Some(i as u32);
         }
         v = bank.above(v);
-        j += 1;
     }
-    Beyond::Nothing
+    None
 }
 
 // The lowest of the m INTIDs from lo on over which a write of the value is refused: none where all are in the table.
-pub fn write_beyond(explicit: bool, n: u32, bank: Bank, value: u64, lo: u32, m: u32) -> Beyond
+pub fn write_beyond(explicit: bool, n: u32, bank: Bank, value: u64, lo: u32, m: u32) -> Option<u32>
     ensures { told_beyond result ≡ first_of (passing (refused_over explicit n bank value lo) lo m) }
 {
     if !explicit | (lo as u64 + m as u64 <= 32 + n as u64) {
-        Beyond::Nothing
+        None
     } else {
         first_beyond(explicit, n, bank, value, lo, m)
     }
 }
 
 // The lowest of the m INTIDs from lo on over which a read is refused.
-pub fn read_beyond(explicit: bool, n: u32, bank: Bank, lo: u32, m: u32) -> Beyond
+pub fn read_beyond(explicit: bool, n: u32, bank: Bank, lo: u32, m: u32) -> Option<u32>
     ensures { told_beyond result ≡ first_of (passing (λ i. read_refuses bank && beyond_table explicit n i) lo m) }
 {
     if bank.read_refuses() {
         write_beyond(explicit, n, bank, 0, lo, m)
     } else {
-        Beyond::Nothing
+        None
     }
 }
 
-fn route_value(route: Route) -> u64
+fn route_value(route: Option<GicAffinity>) -> u64
     ensures { result ≡ route_bits route }
 {
     match route {
-        Route::To(affinity) => affinity.mpidr(),
-        Route::Unset => 0,
+        Some(affinity) => affinity.mpidr(),
+        None => 0,
     }
 }
 
@@ -110,11 +101,7 @@ fn route_value(route: Route) -> u64
 pub fn trigger_in(field: u64) -> TriggerMode
     ensures { result ≡ trigger_in field }
 {
-    if 2 <= field {
-        TriggerMode::Edge
-    } else {
-        TriggerMode::Level
-    }
+    TriggerMode::of(2 <= field)
 }
 
 fn edge_value(trigger: TriggerMode) -> u64
@@ -126,16 +113,11 @@ fn edge_value(trigger: TriggerMode) -> u64
     }
 }
 
-impl Beyond {
-    // A write that is refused beyond the table lists no candidate.
-    pub fn lists(self) -> bool
-        ensures { result ≡ lists_unless self }
-    {
-        match self {
-            Beyond::Nothing => true,
-            Beyond::At(_) => false,
-        }
-    }
+// A write that is refused beyond the table lists no candidate.
+pub fn lists_unless(beyond: Option<u32>) -> bool
+    ensures { result ≡ lists_unless beyond }
+{
+    beyond.is_none()
 }
 
 impl Flag {
@@ -157,22 +139,14 @@ impl Flag {
     fn set_lists(self) -> bool
         ensures { result ≡ set_lists self }
     {
-        match self {
-            Flag::Enabled => true,
-            Flag::Pending => true,
-            Flag::Active => false,
-        }
+        matches!(self, Flag::Enabled | Flag::Pending)
     }
 
     // Whether clearing it lists: an interrupt that is no longer active may be delivered again.
     fn clear_lists(self) -> bool
         ensures { result ≡ clear_lists self }
     {
-        match self {
-            Flag::Enabled => false,
-            Flag::Pending => false,
-            Flag::Active => true,
-        }
+        matches!(self, Flag::Active)
     }
 }
 
@@ -200,9 +174,7 @@ impl Field {
             Field::Route => route_value(interrupt.route()),
         }
     }
-}
 
-impl Field {
     // Every field acts, or none does.
     fn idle(self) -> u32
         ensures { result ≡ cond (rule_of self).takes_writes 0 64 }
@@ -222,11 +194,11 @@ impl FieldRule {
         ensures { result ≡ rule bits takes_writes lists refuses_reads ignores_beyond }
     {
         FieldRule {
-            bits: bits,
-            takes_writes: takes_writes,
-            lists: lists,
-            refuses_reads: refuses_reads,
-            ignores_beyond: ignores_beyond,
+            bits,
+            takes_writes,
+            lists,
+            refuses_reads,
+            ignores_beyond,
         }
     }
 }
@@ -237,8 +209,7 @@ impl Bank {
         ensures { result ≡ bits_of self }
     {
         match self {
-            Bank::Set(_) => 1,
-            Bank::Clear(_) => 1,
+            Bank::Set(_) | Bank::Clear(_) => 1,
             Bank::Replace(field) => field.rule().bits,
         }
     }
@@ -248,8 +219,7 @@ impl Bank {
         ensures { (result ≡ shown self interrupt) × (result < 2 ^ bits_of self) }
     {
         match self {
-            Bank::Set(flag) => flag.of(interrupt) as u64,
-            Bank::Clear(flag) => flag.of(interrupt) as u64,
+            Bank::Set(flag) | Bank::Clear(flag) => flag.of(interrupt) as u64,
             Bank::Replace(field) => field.of(interrupt),
         }
     }
@@ -259,8 +229,7 @@ impl Bank {
         ensures { result ≡ acts self field }
     {
         match self {
-            Bank::Set(_) => field == 1,
-            Bank::Clear(_) => field == 1,
+            Bank::Set(_) | Bank::Clear(_) => field == 1,
             Bank::Replace(kept) => kept.rule().takes_writes,
         }
     }
@@ -280,21 +249,13 @@ impl Bank {
     fn read_refuses(self) -> bool
         ensures { result ≡ read_refuses self }
     {
-        match self {
-            Bank::Set(_) => false,
-            Bank::Clear(_) => false,
-            Bank::Replace(field) => field.rule().refuses_reads,
-        }
+        matches!(self, Bank::Replace(field) if field.rule().refuses_reads)
     }
 
     fn ignores_beyond(self) -> bool
         ensures { result ≡ ignores_beyond self }
     {
-        match self {
-            Bank::Set(_) => false,
-            Bank::Clear(_) => false,
-            Bank::Replace(field) => field.rule().ignores_beyond,
-        }
+        matches!(self, Bank::Replace(field) if field.rule().ignores_beyond)
     }
 
     // Whether a written field is refused beyond the table.
@@ -337,8 +298,7 @@ impl Bank {
         ensures { result ≡ idle_fields self value }
     {
         match self {
-            Bank::Set(_) => u64::trailing_zeros(value),
-            Bank::Clear(_) => u64::trailing_zeros(value),
+            Bank::Set(_) | Bank::Clear(_) => value.trailing_zeros(),
             Bank::Replace(field) => field.idle(),
         }
     }

@@ -1,5 +1,5 @@
 -- The paper's sentences on claims, releases and target masks: what each does, and what it leaves alone.
-use Rattle.std.specs.Prelude.{ℕ, ◌≡◌, Bool, true, false, ◌||◌}
+use Rattle.std.specs.Prelude.{ℕ, ◌≡◌, Bool, true, false, ◌||◌, Option, Some, None}
 use Rattle.std.proofs.Math.Path.{refl}
 use Rattle.identifiers.specs.declared.types.IntId.{IntId}
 use Rattle.attributes.specs.declared.attributes.GicAffinity.{GicAffinity}
@@ -10,8 +10,6 @@ use Rattle.attributes.specs.States.{pending_of, active_of, state_of}
 use Rattle.life.specs.declared.life.Life.{Life}
 use Rattle.life.specs.Life.{redelivery}
 use Rattle.interrupt.specs.declared.interrupt.InterruptRecord.{InterruptRecord}
-use Rattle.interrupt.specs.declared.interrupt.Route.{Route}
-use Rattle.interrupt.specs.declared.interrupt.TargetMask.{TargetMask}
 use Rattle.interrupt.specs.Records.{is_level, state_in, route_to, unrouted, trigger_to, mask_to, route_in, mask_in}
 use Rattle.operation.specs.declared.operation.Operation.{Operation}
 use Rattle.operation.specs.Laws.{flags_after, settings_of, settings_after, flags-after, settings-after, intid_kept, merged_is, synchronized-settings, synchronized_intid}
@@ -28,7 +26,7 @@ abbrev core : InterruptRecord → IntId × Life × Priority
 core r = (r.intid, r.life, r.priority)
 
 -- the trigger, the route and the target mask
-abbrev wiring : InterruptRecord → TriggerMode × Route × TargetMask
+abbrev wiring : InterruptRecord → TriggerMode × Option GicAffinity × Option ℕ
 wiring r = (r.trigger, route_in r, mask_in r)
 
 module _ (o : Ownership) (r : InterruptRecord) where
@@ -36,7 +34,7 @@ module _ (o : Ownership) (r : InterruptRecord) where
   pub release_all : (happens Release o ≡ true) × (ownership_after Release o ≡ held false false)
   release_all = (refl, refl)
 
-  pub release_keeps : (core (record_after Release r) ≡ core r) × (wiring (record_after Release r) ≡ (TriggerMode.Level, Route.Unset, mask_in r))
+  pub release_keeps : (core (record_after Release r) ≡ core r) × (wiring (record_after Release r) ≡ (TriggerMode.Level, None, mask_in r))
   unfolding unrouted trigger_to route_in mask_in
   release_keeps = (refl, refl)
 
@@ -45,12 +43,12 @@ module _ (o : Ownership) (r : InterruptRecord) where
   software_claim = (refl, refl)
 
   -- a physical claim sets route and mark, and drops the target mask
-  pub physical_claim : (a : GicAffinity) → let s = record_after (ClaimTo a) r in (ownership_after (ClaimTo a) o ≡ held true true) × (core s ≡ core r) × (wiring s ≡ (r.trigger, Route.To a, TargetMask.Unset))
+  pub physical_claim : (a : GicAffinity) → let s = record_after (ClaimTo a) r in (ownership_after (ClaimTo a) o ≡ held true true) × (core s ≡ core r) × (wiring s ≡ (r.trigger, Some a, None))
   unfolding route_to route_in mask_in
   physical_claim a = (refl, refl, refl)
 
   -- a target mask drops the route, and touches neither claim nor mark
-  pub mask_set_lem : (m : ℕ) → let s = record_after (SetCpuTargetMask m) r in (ownership_after (SetCpuTargetMask m) o ≡ o) × (core s ≡ core r) × (wiring s ≡ (r.trigger, Route.Unset, TargetMask.Cores m))
+  pub mask_set_lem : (m : ℕ) → let s = record_after (SetCpuTargetMask m) r in (ownership_after (SetCpuTargetMask m) o ≡ o) × (core s ≡ core r) × (wiring s ≡ (r.trigger, None, Some m))
   unfolding mask_to route_in mask_in
   mask_set_lem m = (refl, refl, refl)
 

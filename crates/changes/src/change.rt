@@ -1,4 +1,5 @@
-// The changes of the host, and what each makes of a record, and of the claim and the fixed mark.
+// The changes of the host, and what each makes of a record, and of the claim and the fixed mark. They are values, as
+// operations are, since the theorems on order speak of sequences of calls.
 ghost use Rattle.std.specs.Prelude.{◌≡◌};
 ghost use Rattle.changes.specs.Changes.{happens, ownership_after, record_after};
 
@@ -7,7 +8,7 @@ use interrupt::interrupt::InterruptRecord;
 use operation::operation::{Operation, apply};
 use ownership::ownership::Ownership;
 
-#[derive(Clone, Copy)]
+#[derive(Clone, Copy, Debug, PartialEq, Eq)]
 pub enum Change {
     // By software.
     Claim,
@@ -25,12 +26,9 @@ impl Change {
         ensures { result ≡ happens self ownership }
     {
         match self {
-            Change::Claim => !ownership.explicitly_owned,
-            Change::ClaimTo(_) => !ownership.explicitly_owned,
-            Change::Release => true,
+            Change::Claim | Change::ClaimTo(_) => !ownership.explicitly_owned,
             Change::SetCpuTargetMask(_) => !ownership.fixed_route,
-            Change::SynchronizeInflight(_) => true,
-            Change::Operate(_) => true,
+            Change::Release | Change::SynchronizeInflight(_) | Change::Operate(_) => true,
         }
     }
 
@@ -51,9 +49,9 @@ impl Change {
                 explicitly_owned: false,
                 fixed_route: false,
             },
-            Change::SetCpuTargetMask(_) => ownership,
-            Change::SynchronizeInflight(_) => ownership,
-            Change::Operate(_) => ownership,
+            Change::SetCpuTargetMask(_) | Change::SynchronizeInflight(_) | Change::Operate(_) => {
+                ownership
+            }
         }
     }
 

@@ -1,9 +1,9 @@
 // The settings of a Distributor, fixed when it is made.
 ghost use Rattle.std.specs.Prelude.{◌≡◌};
-ghost use Rattle.controller.specs.Modes.{explicit};
+ghost use Rattle.controller.specs.Modes.{explicit, ownership_of};
 
 // Which SPIs count as the guest's.
-#[derive(Clone, Copy)]
+#[derive(Clone, Copy, Debug, PartialEq, Eq)]
 pub enum GicV3SpiOwnership {
     // All of them.
     AllGuestOwned,
@@ -12,17 +12,25 @@ pub enum GicV3SpiOwnership {
 }
 
 impl GicV3SpiOwnership {
+    // Whether claims decide.
+    pub fn of(explicit: bool) -> Self
+        ensures { result ≡ ownership_of explicit }
+    {
+        if explicit {
+            GicV3SpiOwnership::Explicit
+        } else {
+            GicV3SpiOwnership::AllGuestOwned
+        }
+    }
+
     pub fn is_explicit(self) -> bool
         ensures { result ≡ explicit self }
     {
-        match self {
-            GicV3SpiOwnership::AllGuestOwned => false,
-            GicV3SpiOwnership::Explicit => true,
-        }
+        matches!(self, GicV3SpiOwnership::Explicit)
     }
 }
 
-#[derive(Clone, Copy)]
+#[derive(Clone, Copy, Debug, PartialEq, Eq)]
 pub struct ControllerConfig {
     pub spi_ownership: GicV3SpiOwnership,
     // The size of the register frame in bytes.

@@ -15,8 +15,10 @@ const COMPONENT_IDS: [u8; 12] = [
 pub fn component_id(k: u32) -> u64
     ensures { result ≡ get_or component_id k 0 }
 {
-    let at = k as usize;
-    if at < 12 { COMPONENT_IDS[at] as u64 } else { 0 }
+    match COMPONENT_IDS.get(k as usize) {
+        Some(id) => *id as u64,
+        None => 0,
+    }
 }
 
 // Arm is the implementer.
@@ -47,8 +49,8 @@ fn largest_intid(config: ControllerConfig, n: u32) -> u32
 fn id_bits(largest: u32) -> u32
     ensures { result ≡ max (32 - count_leading_zeros 32 largest) 16 }
 {
-    let digits = 32 - u32::leading_zeros(largest);
-    if digits < 16 { 16 } else { digits }
+    let digits = 32 - largest.leading_zeros();
+    digits.max(16)
 }
 
 fn typer_value(config: ControllerConfig, n: u32) -> u64

@@ -1,4 +1,5 @@
 -- What decoding promises of a register, each by one test of all the map's rows.
+use Rattle.std.specs.Prelude.{Option, Ok, Err}
 use Prim.Native.Nat.{ℕ, ◌+◌, ◌-◌, ◌*◌, ◌/◌, ◌%◌, ◌≤◌, ◌<◌}
 use mathlib.Core.Path.{◌≡◌, refl, subst}
 use mathlib.Core.Bool.{Bool, true, false, not, ◌&&◌, ◌||◌, cond}
@@ -6,7 +7,8 @@ use mathlib.Core.List.{List, [], ◌∷◌}
 use native.Mathlib.Omega.{arith}
 use native.Mathlib.Nat.{mul_comm, div-le_self, div-mul-le_self}
 use borrow.Author.Tests.{leb-true, eqb-true}
-use lib.Dec.{leb, ltb, eqb}
+use lib.Dec.{leb, eqb}
+use Rattle.std.specs.List.{list_all}
 use Rattle.theory.specs.Bools.{both}
 use Rattle.identifiers.specs.declared.error.Refusal.TheVariants.{InvalidAccess, InvalidWidth}
 use Rattle.bank.specs.declared.bank.Bank.{Bank}
@@ -16,16 +18,20 @@ use Rattle.registers.specs.declared.register.AccessWidth.{AccessWidth}
 use Rattle.registers.specs.declared.register.AccessWidth.TheVariants.{Byte, Word, Dword, Qword}
 use Rattle.registers.specs.declared.register.Direction.{Direction}
 use Rattle.registers.specs.declared.register.Direction.TheVariants.{Reading}
-use Rattle.registers.specs.declared.register.Access.TheVariants.{To, Refused}
 use Rattle.registers.specs.declared.register.Register.{Register}
 use Rattle.registers.specs.declared.register.Register.TheVariants.{Fields, Reserved}
-use Rattle.registers.specs.Registers.{bytes_of, takes, Kind, identification, ctlr, typer, iidr, bank, Row, map, widths_for, holds, register_at, lookup}
+use Rattle.registers.specs.declared.register.Kind.{Kind}
+use Rattle.registers.specs.declared.register.Row.{Row}
+use Rattle.registers.specs.Registers.{bytes_of, takes, map, widths_for, holds, register_at, lookup}
 use Rattle.registers.specs.MapLaws.{between}
-use Rattle.registers.proofs.Rows.{every, sized}
 use Rattle.registers.proofs.Widths.{bytes_range}
 use Rattle.decoding.specs.Decoding.{legal, decode}
 use Rattle.decoding.proofs.RefusalLaws.{legal_when}
 use Rattle.decoding.specs.Bounds.{Bounded, Whole}
+
+-- a row is at most 0x2000 bytes long
+sized : Row → Bool
+sized r = leb r.end (r.from + 0x2000)
 
 fields_bounded : (b : Bank) (at : ℕ) (w : AccessWidth) → at < 0x2000 → Bounded (Fields b (at * 8 / bits_of b) (bytes_of w * 8 / bits_of b))
 fields_bounded b at w h =
@@ -37,31 +43,31 @@ fields_bounded b at w h =
     (omega arith, omega arith, omega arith)
 
 kind_bounded : (k : Kind) (at : ℕ) (w : AccessWidth) → at < 0x2000 → Bounded (register_at k at w)
-kind_bounded identification at w h = tt
-kind_bounded ctlr at w h = tt
-kind_bounded typer at w h = tt
-kind_bounded iidr at w h = tt
-kind_bounded (bank b) at w h = fields_bounded b at w h
+kind_bounded Kind.Identification at w h = tt
+kind_bounded Kind.Ctlr at w h = tt
+kind_bounded Kind.Typer at w h = tt
+kind_bounded Kind.Iidr at w h = tt
+kind_bounded (Kind.Bank b) at w h = fields_bounded b at w h
 
 -- a bank's row starts at a multiple of 8, and a read of it covers at most 32 INTIDs
-allows : ℕ → ℕ → AccessWidth → Bool
+allows : Option AccessWidth → ℕ → AccessWidth → Bool
 allows ws bits w = not (takes ws w) || leb (bytes_of w * 8 / bits) 32
 
-starts_whole : Kind → ℕ → ℕ → Bool
-starts_whole identification f ws = true
-starts_whole ctlr f ws = true
-starts_whole typer f ws = true
-starts_whole iidr f ws = true
-starts_whole (bank b) f ws = eqb (f % 8) 0 && (allows ws (bits_of b) Byte && (allows ws (bits_of b) Word && (allows ws (bits_of b) Dword && allows ws (bits_of b) Qword)))
+starts_whole : Kind → ℕ → Option AccessWidth → Bool
+starts_whole Kind.Identification f ws = true
+starts_whole Kind.Ctlr f ws = true
+starts_whole Kind.Typer f ws = true
+starts_whole Kind.Iidr f ws = true
+starts_whole (Kind.Bank b) f ws = eqb (f % 8) 0 && (allows ws (bits_of b) Byte && (allows ws (bits_of b) Word && (allows ws (bits_of b) Dword && allows ws (bits_of b) Qword)))
 
 whole : Row → Bool
 whole r = starts_whole r.kind r.from r.reads
 
-allowed : (ws k : ℕ) (w : AccessWidth) → allows ws k w ≡ true → takes ws w ≡ true → bytes_of w * 8 / k ≤ 32
+allowed : (ws : Option AccessWidth) (k : ℕ) (w : AccessWidth) → allows ws k w ≡ true → takes ws w ≡ true → bytes_of w * 8 / k ≤ 32
 unfolding allows
 allowed ws k w e t = leb-true (bytes_of w * 8 / k) 32 (rw t at e)
 
-few : (ws k : ℕ) (w : AccessWidth)
+few : (ws : Option AccessWidth) (k : ℕ) (w : AccessWidth)
     → (allows ws k Byte && (allows ws k Word && (allows ws k Dword && allows ws k Qword))) ≡ true → takes ws w ≡ true → bytes_of w * 8 / k ≤ 32
 few ws k Byte e t = allowed ws k Byte (both (allows ws k Byte) _ e).0 t
 few ws k Word e t = allowed ws k Word (both (allows ws k Word) _ (both (allows ws k Byte) _ e).1).0 t
@@ -104,13 +110,13 @@ aligned o f Word h g l = omega arith
 aligned o f Dword h g l = omega arith
 aligned o f Qword h g l = omega arith
 
-kind_whole : (k : Kind) (o f ws : ℕ) (w : AccessWidth) → starts_whole k f ws ≡ true → takes ws w ≡ true → f ≤ o → o % bytes_of w ≡ 0 → Whole (register_at k (o - f) w)
+kind_whole : (k : Kind) (o f : ℕ) (ws : Option AccessWidth) (w : AccessWidth) → starts_whole k f ws ≡ true → takes ws w ≡ true → f ≤ o → o % bytes_of w ≡ 0 → Whole (register_at k (o - f) w)
 unfolding starts_whole
-kind_whole identification o f ws w s t l z = tt
-kind_whole ctlr o f ws w s t l z = tt
-kind_whole typer o f ws w s t l z = tt
-kind_whole iidr o f ws w s t l z = tt
-kind_whole (bank b) o f ws w s t l z =
+kind_whole Kind.Identification o f ws w s t l z = tt
+kind_whole Kind.Ctlr o f ws w s t l z = tt
+kind_whole Kind.Typer o f ws w s t l z = tt
+kind_whole Kind.Iidr o f ws w s t l z = tt
+kind_whole (Kind.Bank b) o f ws w s t l z =
     let (x, y) = both (eqb (f % 8) 0) _ s in
     whole_words b (o - f) w (aligned o f w z (eqb-true (f % 8) 0 x) l) (few ws (bits_of b) w y t)
 
@@ -120,48 +126,48 @@ module _ (P : Register → Type 0) (none : P Reserved) (d : Direction) (o : ℕ)
   Each [] = Unit {0}
   Each (r ∷ rs) = (holds r o ≡ true → takes (widths_for d r.reads r.writes) w ≡ true → P (register_at r.kind (o - r.from) w)) × Each rs
 
-  lookup-each : (rs : List Row) → Each rs → (g : Register) → lookup d rs o w ≡ To g → P g
+  lookup-each : (rs : List Row) → Each rs → (g : Register) → lookup d rs o w ≡ Ok g → P g
   lookup-each [] ok g e = let p : Reserved ≡ g = cc in subst P p none
   lookup-each (r ∷ rs) ok g e = go (holds r o) (takes (widths_for d r.reads r.writes) w) refl refl e (lookup-each rs ok.1 g)
     where
       go : (h t : Bool) → holds r o ≡ h → takes (widths_for d r.reads r.writes) w ≡ t
-          → cond h (cond t (To (register_at r.kind (o - r.from) w)) (Refused InvalidWidth)) (lookup d rs o w) ≡ To g
-          → (lookup d rs o w ≡ To g → P g) → P g
+          → cond h (cond t (Ok (register_at r.kind (o - r.from) w)) (Err InvalidWidth)) (lookup d rs o w) ≡ Ok g
+          → (lookup d rs o w ≡ Ok g → P g) → P g
       go true true p q f rest = let z : register_at r.kind (o - r.from) w ≡ g = cc in subst P z (ok.0 p q)
       go true false p q f rest = let z : ◌≡◌ {A = ℕ} 0 1 = cc in absurd (omega arith)
       go false t p q f rest = rest f
 
-each_bounded : (rs : List Row) → every sized rs ≡ true → (d : Direction) (o : ℕ) (w : AccessWidth) → Each Bounded tt d o w rs
-unfolding every sized
+each_bounded : (rs : List Row) → list_all sized rs ≡ true → (d : Direction) (o : ℕ) (w : AccessWidth) → Each Bounded tt d o w rs
+unfolding sized
 each_bounded [] ok d o w = tt
 each_bounded (r ∷ rs) ok d o w = (
   (λ h t.
       let n = between r o h in
-      let y = leb-true r.end (r.from + 0x2000) (both (ltb 0 r.every) _ (both (sized r) _ ok).0).1 in
+      let y = leb-true r.end (r.from + 0x2000) (both (sized r) _ ok).0 in
       kind_bounded r.kind (o - r.from) w (omega arith)),
   each_bounded rs (both (sized r) _ ok).1 d o w,
 )
 
-each_whole : (rs : List Row) → every whole rs ≡ true → (o : ℕ) (w : AccessWidth) → o % bytes_of w ≡ 0 → Each Whole tt Reading o w rs
-unfolding every whole
+each_whole : (rs : List Row) → list_all whole rs ≡ true → (o : ℕ) (w : AccessWidth) → o % bytes_of w ≡ 0 → Each Whole tt Reading o w rs
+unfolding whole
 each_whole [] ok o w z = tt
 each_whole (r ∷ rs) ok o w z = (
   (λ h t. kind_whole r.kind o r.from r.reads w (both (whole r) _ ok).0 t (between r o h).0 z),
   each_whole rs (both (whole r) _ ok).1 o w z,
 )
 
-pub decode_bounded : (d : Direction) (frame o : ℕ) (w : AccessWidth) (g : Register) → decode d frame o w ≡ To g → Bounded g
-unfolding decode every sized
+pub decode_bounded : (d : Direction) (frame o : ℕ) (w : AccessWidth) (g : Register) → decode d frame o w ≡ Ok g → Bounded g
+unfolding decode sized
 decode_bounded d frame o w g e = go (legal frame o w) e
   where
-    go : (h : Bool) → cond h (lookup d map o w) (Refused InvalidAccess) ≡ To g → Bounded g
+    go : (h : Bool) → cond h (lookup d map o w) (Err InvalidAccess) ≡ Ok g → Bounded g
     go true f = lookup-each Bounded tt d o w map (each_bounded map refl d o w) g f
     go false f = let z : ◌≡◌ {A = ℕ} 0 1 = cc in absurd (omega arith)
 
-pub decode_whole : (frame o : ℕ) (w : AccessWidth) (g : Register) → decode Reading frame o w ≡ To g → Whole g
-unfolding decode every whole starts_whole allows
+pub decode_whole : (frame o : ℕ) (w : AccessWidth) (g : Register) → decode Reading frame o w ≡ Ok g → Whole g
+unfolding decode whole starts_whole allows
 decode_whole frame o w g e = go (legal frame o w) refl e
   where
-    go : (h : Bool) → legal frame o w ≡ h → cond h (lookup Reading map o w) (Refused InvalidAccess) ≡ To g → Whole g
+    go : (h : Bool) → legal frame o w ≡ h → cond h (lookup Reading map o w) (Err InvalidAccess) ≡ Ok g → Whole g
     go true l f = lookup-each Whole tt Reading o w map (each_whole map refl o w ((legal_when frame o w).0 l).1) g f
     go false l f = let z : ◌≡◌ {A = ℕ} 0 1 = cc in absurd (omega arith)

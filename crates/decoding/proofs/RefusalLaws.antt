@@ -1,6 +1,6 @@
 -- Refusals 5, 3 and 4, each exactly when the paper gives it, in that order. A read is refused 3 and 4 by `illegal` and `wrong_width`;
 -- a write by `short_list` before these.
-use Rattle.std.specs.Prelude.{ℕ, ◌+◌, ◌%◌, ◌^◌, ◌≤◌, ◌<◌, refl, Bool, ◌↔◌, ◌≢◌, ◌⊎◌, leb, ltb}
+use Rattle.std.specs.Prelude.{ℕ, ◌+◌, ◌%◌, ◌^◌, ◌≤◌, ◌<◌, refl, Bool, ◌↔◌, ◌≢◌, ◌⊎◌, leb, ltb, Ok, Err}
 use Rattle.std.proofs.Math.Path.{◌≡◌, ap}
 use Rattle.std.proofs.Common.{sym, ◌∙◌, inl, inr, ⊎_elim, arith, leb-true, ltb-true, eqb-true, le-leb, lt-ltb, le-ltb, eq-eqb}
 use Rattle.std.proofs.Math.Bool.{true, false, cond}
@@ -13,7 +13,6 @@ use Rattle.registers.specs.declared.register.AccessWidth.{AccessWidth}
 use Rattle.registers.specs.declared.register.Direction.{Direction}
 use Rattle.registers.specs.declared.register.Direction.TheVariants.{Writing}
 use Rattle.registers.specs.declared.register.Register.TheVariants.{Reserved}
-use Rattle.registers.specs.declared.register.Access.TheVariants.{To, Refused}
 use Rattle.registers.specs.Registers.{bytes_of, map, lookup}
 use Rattle.registers.specs.FrameLaws.{is_register, needs_another, reached, by_width}
 use Rattle.registers.proofs.FrameLaws.{width_decides}
@@ -35,55 +34,55 @@ illegal_when frame o w = (
 
 module _ (d : Direction) (frame o : ℕ) (w : AccessWidth) where
   -- 3 before 4, and no other refusal
-  pub decoded : decode d frame o w ≡ cond (legal frame o w) (by_width d o w (reached (lookup d map o w))) (Refused InvalidAccess)
+  pub decoded : decode d frame o w ≡ cond (legal frame o w) (by_width d o w (reached (lookup d map o w))) (Err InvalidAccess)
   unfolding decode
-  decoded = ap (λ x. cond (legal frame o w) x (Refused InvalidAccess)) (width_decides d o w)
+  decoded = ap (λ x. cond (legal frame o w) x (Err InvalidAccess)) (width_decides d o w)
 
   module _ (f : Refusal) where
-    only : (l n : Bool) → decode d frame o w ≡ cond l (cond n (Refused InvalidWidth) (To (reached (lookup d map o w)))) (Refused InvalidAccess)
-        → decode d frame o w ≡ Refused f → ((l ≡ false) × (f ≡ InvalidAccess)) ⊎ ((l ≡ true) × (n ≡ true) × (f ≡ InvalidWidth))
+    only : (l n : Bool) → decode d frame o w ≡ cond l (cond n (Err InvalidWidth) (Ok (reached (lookup d map o w)))) (Err InvalidAccess)
+        → decode d frame o w ≡ Err f → ((l ≡ false) × (f ≡ InvalidAccess)) ⊎ ((l ≡ true) × (n ≡ true) × (f ≡ InvalidWidth))
     only true true e r = inr (refl, refl, cc)
     only true false e r = let z : ◌≡◌ {A = ℕ} 0 1 = cc in absurd (omega arith)
     only false n e r = inl (refl, cc)
 
     -- a refused access is illegal and refused 3, or legal, of a wrong width and refused 4
-    pub refused_by : decode d frame o w ≡ Refused f
+    pub refused_by : decode d frame o w ≡ Err f
         → ((legal frame o w ≡ false) × (f ≡ InvalidAccess)) ⊎ ((legal frame o w ≡ true) × (needs_another d o w ≡ true) × (f ≡ InvalidWidth))
     refused_by = only (legal frame o w) (needs_another d o w) decoded
 
   -- refusal 3: the access ends beyond the frame, or its offset is no multiple of its width
-  pub illegal : decode d frame o w ≡ Refused InvalidAccess ↔ (frame < o + bytes_of w) ⊎ (o % bytes_of w ≢ 0)
+  pub illegal : decode d frame o w ≡ Err InvalidAccess ↔ (frame < o + bytes_of w) ⊎ (o % bytes_of w ≢ 0)
   illegal = (
     (λ r. (illegal_when frame o w).0 (⊎_elim (λ a. a.0) (λ a. cc) (refused_by InvalidAccess r))),
     (λ h. rw (decoded, (illegal_when frame o w).1 h)),
   )
 
   -- a frame's size is a 64-bit number, so an end that passes 2^64 - 1 is refused in every frame
-  pub passes_64_bits : frame < 2 ^ 64 → 2 ^ 64 ≤ o + bytes_of w → decode d frame o w ≡ Refused InvalidAccess
+  pub passes_64_bits : frame < 2 ^ 64 → 2 ^ 64 ≤ o + bytes_of w → decode d frame o w ≡ Err InvalidAccess
   passes_64_bits h e = illegal.1 (inl (omega arith))
 
   -- refusal 4: the access is legal, and its register needs another width
-  pub wrong_width : decode d frame o w ≡ Refused InvalidWidth ↔ (legal frame o w ≡ true) × (needs_another d o w ≡ true)
+  pub wrong_width : decode d frame o w ≡ Err InvalidWidth ↔ (legal frame o w ≡ true) × (needs_another d o w ≡ true)
   wrong_width = (
     (λ r. ⊎_elim (λ a. let z : ◌≡◌ {A = ℕ} 0 1 = cc in absurd (omega arith)) (λ a. (a.0, a.1)) (refused_by InvalidWidth r)),
     (λ h. rw (decoded, h.0, h.1)),
   )
 
   -- a legal access to no register reads 0, or is ignored
-  pub reserved_legal : decode d frame o w ≡ To Reserved ↔ (legal frame o w ≡ true) × (is_register o ≡ false)
+  pub reserved_legal : decode d frame o w ≡ Ok Reserved ↔ (legal frame o w ≡ true) × (is_register o ≡ false)
   unfolding decode
   reserved_legal = go (legal frame o w)
     where
-      go : (l : Bool) → cond l (lookup d map o w) (Refused InvalidAccess) ≡ To Reserved ↔ (l ≡ true) × (is_register o ≡ false)
+      go : (l : Bool) → cond l (lookup d map o w) (Err InvalidAccess) ≡ Ok Reserved ↔ (l ≡ true) × (is_register o ≡ false)
       go true = ((λ e. (refl, (frame-laws.reserved d o w).0 e)), (λ h. (frame-laws.reserved d o w).1 h.1))
       go false = ((λ e. let z : ◌≡◌ {A = ℕ} 0 1 = cc in absurd (omega arith)), (λ h. cc))
 
 -- refusal 5, which only a write is given: a lent list with fewer places than the table has SPIs
 module _ (places spis frame o : ℕ) (w : AccessWidth) where
-  pub short_list : write_access places spis frame o w ≡ Refused ShortList ↔ places < spis
+  pub short_list : write_access places spis frame o w ≡ Err ShortList ↔ places < spis
   short_list = ((λ r. ltb-true places spis (go (ltb places spis) r)), (λ h. rw (lt-ltb places spis h)))
     where
-      go : (b : Bool) → cond b (Refused ShortList) (decode Writing frame o w) ≡ Refused ShortList → b ≡ true
+      go : (b : Bool) → cond b (Err ShortList) (decode Writing frame o w) ≡ Err ShortList → b ≡ true
       go true r = refl
       go false r = ⊎_elim (λ a. cc) (λ a. cc) (refused_by Writing frame o w ShortList r)
 
@@ -92,7 +91,7 @@ module _ (places spis frame o : ℕ) (w : AccessWidth) where
   long_list h = rw (le-ltb places spis h)
 
   -- so refusals 3 and 4 of a write are those of `illegal` and `wrong_width`, with a list that is long enough
-  pub write_refused : (f : Refusal) → f ≢ ShortList → write_access places spis frame o w ≡ Refused f ↔ (spis ≤ places) × (decode Writing frame o w ≡ Refused f)
+  pub write_refused : (f : Refusal) → f ≢ ShortList → write_access places spis frame o w ≡ Err f ↔ (spis ≤ places) × (decode Writing frame o w ≡ Err f)
   write_refused f other = (
     (λ r.
         let long : spis ≤ places = by_cases (dec_le spis places) (λ p. p) (λ p. absurd (other (let q = short_list.1 (omega arith) in cc))) in

@@ -10,12 +10,7 @@ fn is_legal(frame: u64, offset: u64, width: AccessWidth) -> bool
     ensures { result ≡ legal frame offset width }
 {
     let bytes = width.size();
-    if bytes <= frame {
-        if offset <= frame - bytes {
-            return offset % bytes == 0;
-        }
-    }
-    false
+    bytes <= frame && offset <= frame - bytes && offset % bytes == 0
 }
 
 // Refusals 3 and 4, in this order, or the register that the access reaches.
@@ -23,11 +18,10 @@ fn is_legal(frame: u64, offset: u64, width: AccessWidth) -> bool
 pub fn decode(direction: Direction, frame: u64, offset: u64, width: AccessWidth) -> Access
     ensures { result ≡ decode direction frame offset width }
 {
-    if is_legal(frame, offset, width) {
-        find(direction, offset, width)
-    } else {
-        Access::Refused(Refusal::InvalidAccess)
+    if !is_legal(frame, offset, width) {
+        return Err(Refusal::InvalidAccess);
     }
+    find(direction, offset, width)
 }
 
 // What a write reaches. Refusal 5 comes first: a lent list with fewer places than the table has SPIs.
@@ -35,8 +29,7 @@ pub fn write_access(places: usize, spis: u32, frame: u64, offset: u64, width: Ac
     ensures { result ≡ write_access places spis frame offset width }
 {
     if places < spis as usize {
-        Access::Refused(Refusal::ShortList)
-    } else {
-        decode(Direction::Writing, frame, offset, width)
+        return Err(Refusal::ShortList);
     }
+    decode(Direction::Writing, frame, offset, width)
 }

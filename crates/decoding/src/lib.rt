@@ -1,4 +1,6 @@
-// How an access to the frame is decoded: refused, in the order of the refusals, or the register that it reaches.
+// How an access to the frame is decoded: refused, in the order of the refusals, or the register that it reaches. Of a bank it reaches
+// some fields.
 #![tactic(auto)]
 
 pub mod decode;
+pub mod fields;

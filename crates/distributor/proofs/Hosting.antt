@@ -1,4 +1,5 @@
 -- A change of one SPI is a map of the table.
+use Rattle.std.specs.Prelude.{Ok, Err, Option}
 use Prim.Native.Nat.{ℕ, ◌+◌, ◌-◌}
 use mathlib.Core.Path.{◌≡◌, refl, sym, ap, ◌∙◌}
 use mathlib.Core.Logic.{◌≢◌, by_cases}
@@ -21,15 +22,15 @@ use Rattle.slot.specs.NoSlot.{no_slot}
 use Rattle.slot.specs.BankRule.{slot_of}
 use Rattle.changes.specs.declared.change.Change.{Change}
 use Rattle.spi.specs.declared.question.Question.{Question}
-use Rattle.spi.specs.declared.question.SlotAnswer.{SlotAnswer}
 use Rattle.spi.specs.ChangeAnswers.{change_answer, told_change}
 use Rattle.spi.specs.Questions.{value_of, told_value, question_answer, told_question}
 use Rattle.model.specs.Calls.{change, ask, size, plain, changed_at, reply, step}
 use Rattle.distributor.specs.declared.distributor.DistributorState.{DistributorState}
-use Rattle.distributor.specs.declared.host.Changed.{Changed}
+use Rattle.distributor.specs.declared.distributor.After.{After}
 use Rattle.distributor.specs.Model.{model_of}
 use Rattle.distributor.specs.Loops.{with_slots}
 use Rattle.distributor.specs.Host.{slot_answer, ResultOf}
+use Rattle.attributes.specs.declared.attributes.InterruptState.{InterruptState}
 
 module _ (d : DistributorState) (raw : ℕ) where
   abbrev N : ℕ
@@ -54,7 +55,7 @@ module _ (d : DistributorState) (raw : ℕ) where
     nowhere i s t = by_cases (ℕ_discrete (32 + i) raw) (λ e. rw (e, t)) (λ o. sym (elsewhere i s o))
 
     -- the slot at the SPI's place is changed
-    pub changed_in : (p : ℕ) (new : Slot) (r : Changed) → in_table N raw ≡ true → p ≡ raw - 32
+    pub changed_in : (p : ℕ) (new : Slot) (r : After (Option InterruptState)) → in_table N raw ≡ true → p ≡ raw - 32
         → new ≡ changed h (get_or d.slots p no_slot) → r.state ≡ with_slots d (set d.slots p new)
         → told_change r.answer ≡ change_answer h (get_or d.slots p no_slot) → ResultOf (change h raw) d r
     unfolding step reply
@@ -70,7 +71,7 @@ module _ (d : DistributorState) (raw : ℕ) where
         )
 
     -- an SPI that the table has not
-    pub changed_out : (r : Changed) → in_table N raw ≡ false → r.state ≡ d → told_change r.answer ≡ refused 1 (raw ∷ []) → ResultOf (change h raw) d r
+    pub changed_out : (r : After (Option InterruptState)) → in_table N raw ≡ false → r.state ≡ d → told_change r.answer ≡ refused 1 (raw ∷ []) → ResultOf (change h raw) d r
     unfolding step reply
     changed_out r t s a = (
       ap model_of (s ∙ ap (with_slots d) (sym (map_at_still (λ q. changed_at d.config N h raw (32 + q)) d.slots (λ i x. nowhere i x t)))),
@@ -82,6 +83,6 @@ module _ (d : DistributorState) (raw : ℕ) where
   unfolding reply
   asked_so q = go (in_table N raw)
     where
-      go : (t : Bool) → plain (told_question (question_answer q (cond t (SlotAnswer.Done (slot_of d.slots raw)) (SlotAnswer.Refused (InvalidIntId raw))))) ≡ plain (cond t (Rattle.identifiers.specs.Answer.done (told_value (value_of q (slot_of d.slots raw)))) (refused 1 (raw ∷ [])))
+      go : (t : Bool) → plain (told_question (question_answer q (cond t (Ok (slot_of d.slots raw)) (Err (InvalidIntId raw))))) ≡ plain (cond t (Rattle.identifiers.specs.Answer.done (told_value (value_of q (slot_of d.slots raw)))) (refused 1 (raw ∷ [])))
       go true = refl
       go false = refl

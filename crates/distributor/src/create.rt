@@ -6,51 +6,39 @@ ghost use Rattle.slot.specs.Slots.{fresh_spi};
 ghost use Rattle.model.specs.Calls.{created, is_switched_on, rollback, reply, step};
 ghost use Rattle.distributor.specs.Model.{model_of, switch_reply};
 
-use crate::distributor::DistributorState;
+use crate::distributor::{After, DistributorState};
 use controller::controller::ControllerConfig;
 use identifiers::types::SpiId;
-use place::place::{CreateAnswer, SPIS, create_answer, created_count};
+use place::place::{SPIS, create_answer, created_count};
 use slot::slot::Slot;
-
-#[derive(Clone, Copy)]
-pub struct Created {
-    // With no SPIs where the creation was refused.
-    pub state: DistributorState,
-    pub answer: CreateAnswer,
-}
+use std::array;
 
 // A fresh SPI in every place.
 fn fresh_slots() -> [Slot; SPIS]
     ensures { result ≡ tabulate (λ p. fresh_spi (32 + p)) 0 capacity }
 {
-    let mut slots = [Slot::fresh(SpiId::nth(0)); SPIS];
-    let mut p: usize = 0;
-    while p < SPIS {
-        slots[p] = Slot::fresh(SpiId::nth(p as u32));
-        p += 1;
-    }
-    slots
+    array::from_fn(|p| Slot::fresh(SpiId::nth(p as u32)))
 }
 
 impl DistributorState {
     fn made(config: ControllerConfig, spi_count: u32) -> Self
         ensures { model_of result ≡ created config spi_count }
     {
-        let slots = fresh_slots();
         DistributorState {
-            config: config,
+            config,
             enabled: false,
-            spi_count: spi_count,
-            slots: slots,
+            spi_count,
+            slots: fresh_slots(),
         }
     }
 
-    // A Distributor of so many SPIs. More than a table has room for are refused, carrying 1020, the first INTID past the SPIs.
-    pub fn new(config: ControllerConfig, spi_count: u32) -> Created
+    // A Distributor of so many SPIs. More than a table has room for are refused, carrying 1020, the first INTID past the SPIs; the state
+    // then has no SPIs.
+    pub fn new(config: ControllerConfig, spi_count: u32) -> After<()>
         ensures state { model_of result.state ≡ created config (created_count spi_count) }
         ensures answer { told_create result.answer ≡ create_answer spi_count }
     {
-        Created {
+        After {
             state: DistributorState::made(config, created_count(spi_count)),
             answer: create_answer(spi_count),
         }

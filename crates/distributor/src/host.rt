@@ -5,18 +5,18 @@ ghost use Rattle.model.specs.Calls.{change, ask, plain, reply};
 ghost use Rattle.distributor.specs.Model.{model_of};
 ghost use Rattle.distributor.specs.Host.{slot_answer, ResultOf};
 
-use crate::distributor::DistributorState;
+use crate::distributor::{After, DistributorState};
+use attributes::attributes::InterruptState;
 use changes::change::Change;
+use identifiers::error::Refusal;
 use identifiers::types::SpiId;
-use place::place::{Place, PlaceAnswer};
-use spi::change::{ChangeAnswer, change_answer};
-use spi::question::{Question, QuestionAnswer, SlotAnswer};
+use place::place::Place;
+use slot::slot::Slot;
+use spi::change::change_answer;
+use spi::question::{Question, Value, value_of};
 
-#[derive(Clone, Copy)]
-pub struct Changed {
-    pub state: DistributorState,
-    pub answer: ChangeAnswer,
-}
+// The Distributor after a change of one SPI. A synchronisation gives back the merged state, and any other change nothing.
+pub type Changed = After<Option<InterruptState>>;
 
 impl DistributorState {
     // A change of one SPI. Refusal 1 first, and then what the change itself refuses.
@@ -24,41 +24,35 @@ impl DistributorState {
         ensures { ResultOf (change what spi.0) self result }
     {
         match Place::new(self.spi_count, spi.raw()) {
-            PlaceAnswer::Done(place) => {
+            Ok(place) => {
                 let p = place.index();
                 let old = self.slots[p];
                 self.slots[p] = old.changed(what);
-                Changed {
+                After {
                     state: self,
                     answer: change_answer(old, what),
                 }
             }
-            PlaceAnswer::Refused(refusal) => Changed {
+            Err(refusal) => After {
                 state: self,
-                answer: ChangeAnswer::Refused(refusal),
+                answer: Err(refusal),
             },
         }
     }
 
-    // The slot of an SPI.
-    pub fn slot(self, spi: SpiId) -> SlotAnswer
+    // The slot of an SPI, or refusal 1.
+    pub fn slot(self, spi: SpiId) -> Result<Slot, Refusal>
         ensures { result ≡ slot_answer (model_of self) spi.0 }
     {
-        match Place::new(self.spi_count, spi.raw()) {
-            PlaceAnswer::Done(place) => {
-                let p = place.index();
-                let s = self.slots[p];
-                SlotAnswer::Done(s)
-            }
-            PlaceAnswer::Refused(refusal) => SlotAnswer::Refused(refusal),
-        }
+        let place = Place::new(self.spi_count, spi.raw())?;
+        Ok(self.slots[place.index()])
     }
 
     // A question about one SPI.
-    pub fn ask(self, spi: SpiId, question: Question) -> QuestionAnswer
+    pub fn ask(self, spi: SpiId, question: Question) -> Result<Value, Refusal>
         ensures whole { result ≡ question_answer question (slot_answer (model_of self) spi.0) }
         ensures told { plain (told_question result) ≡ reply (ask question spi.0) (model_of self) }
     {
-        self.slot(spi).ask(question)
+        Ok(value_of(self.slot(spi)?, question))
     }
 }

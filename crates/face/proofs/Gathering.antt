@@ -1,4 +1,5 @@
 -- The loops that test and read the fields of a bank from the records of an image, from the highest INTID down: one field more.
+use Rattle.std.specs.Prelude.{Some, None}
 use Prim.Native.Nat.{ℕ, zero, suc, ◌+◌, ◌-◌, ◌*◌, ◌%◌, ◌^◌, ◌≤◌, ◌<◌, min, max}
 use mathlib.Core.Path.{◌≡◌, refl, ap, ◌∙◌}
 use mathlib.Core.Bool.{Bool, true, false, not}
@@ -18,7 +19,6 @@ use Rattle.model.proofs.Reading.{room, packed_more, packed_room, shows, all_read
 use Rattle.model.proofs.Covering.{covers_yes, covers-inside}
 use Rattle.image.specs.Kept.{good_word, slot_in}
 use Rattle.image.specs.Meaning.{record_at, meant_at, table}
-use Rattle.face.specs.declared.sweeps.FieldsRead.TheVariants.{Value, Bad}
 use Rattle.image_model.specs.Face.{good_where}
 use Rattle.face.specs.Sweeps.{Sized, read_answer}
 use Rattle.image_model.specs.GoodLaws.{good_all, good_not}
@@ -83,7 +83,7 @@ module _ (e : Bool) (n : ℕ) (b : Bank) (lo m : ℕ) (image : List ℕ) where
         tested = hx ∙ ap good_word hw
 
         -- a bad record was found
-        pub gathered_bad : not x ≡ true → Bad ≡ read_answer (good_where (covers n lo m) n image) (bank_value e n b lo m slots)
+        pub gathered_bad : not x ≡ true → None ≡ read_answer (good_where (covers n lo m) n image) (bank_value e n b lo m slots)
         gathered_bad t =
             let bad : good_word (record_at image (i - 1 - 32)) ≡ false = rw (← place) (found_bad x (good_word (record_at image p)) tested t) in
             let r = spi in
@@ -110,8 +110,8 @@ module _ (e : Bool) (n : ℕ) (b : Bank) (lo m : ℕ) (image : List ℕ) where
             }
 
     -- all are read
-    pub gathered_all : (s : Span) → Spans s → (i v : ℕ) → Gathered i v → i ≤ s.first → Value v ≡ read_answer (good_where (covers n lo m) n image) (bank_value e n b lo m slots)
+    pub gathered_all : (s : Span) → Spans s → (i v : ℕ) → Gathered i v → i ≤ s.first → Some v ≡ read_answer (good_where (covers n lo m) n image) (bank_value e n b lo m slots)
     gathered_all s at i v g stop =
         let done : i ≤ max lo 32 = let f = at.first in omega arith in
         let good = good_all (covers n lo m) n image (λ j p q t. let r = covers-inside n lo m j t in g.good.good j (omega (arith, r, done)) (omega (arith, r)) t) in
-        rw good (ap Value (all_read e n b slots lo m v i asked.whole g.low g.high done g.value))
+        rw good (ap Some (all_read e n b slots lo m v i asked.whole g.low g.high done g.value))

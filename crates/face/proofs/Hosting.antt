@@ -1,4 +1,5 @@
 -- A host's call on an image: what is seen of it.
+use Rattle.std.specs.Prelude.{Some, None}
 use Prim.Native.Nat.{ℕ, ◌+◌, ◌-◌, ◌*◌, ◌≤◌, ◌<◌}
 use mathlib.Core.Path.{◌≡◌, refl, sym, ap, ◌∙◌}
 use mathlib.Core.Logic.{◌≢◌, by_cases}
@@ -26,7 +27,6 @@ use Rattle.order.specs.Names.{names}
 use Rattle.image.specs.Bytes.{bytes_of, Bytes}
 use Rattle.image.specs.Kept.{good_word, slot_in, word_of}
 use Rattle.image.specs.declared.header.Header.{Header}
-use Rattle.image.specs.declared.header.HeaderAnswer.TheVariants.{Good, Bad}
 use Rattle.image.specs.Header.{header_of, good_image, header_answer}
 use Rattle.image.specs.Meaning.{record_at, meant_at, meaning}
 use Rattle.image.proofs.MeaningLaws.{length-table, meaning_slot, slot_at}
@@ -40,17 +40,17 @@ use Rattle.face.proofs.Rewriting.{good-sized, Heads, kept_rewrites, store_rewrit
 
 -- ---- the header
 
-pub header_good : (image : List ℕ) (h : Header) → Good h ≡ header_answer image → Headed h image
+pub header_good : (image : List ℕ) (h : Header) → Some h ≡ header_answer image → Headed h image
 header_good image h = go (good_image image) refl
   where
-    go : (b : Bool) → good_image image ≡ b → Good h ≡ cond b (Good (header_of image)) Bad → Headed h image
+    go : (b : Bool) → good_image image ≡ b → Some h ≡ cond b (Some (header_of image)) None → Headed h image
     go true e k = record { good = e; header = cc }
     go false e k = record { good = cc; header = cc }
 
-pub header_bad : (image : List ℕ) → Bad ≡ header_answer image → good_image image ≡ false
+pub header_bad : (image : List ℕ) → None ≡ header_answer image → good_image image ≡ false
 header_bad image = go (good_image image) refl
   where
-    go : (b : Bool) → good_image image ≡ b → Bad ≡ cond b (Good (header_of image)) Bad → good_image image ≡ false
+    go : (b : Bool) → good_image image ≡ b → None ≡ cond b (Some (header_of image)) None → good_image image ≡ false
     go true e k = cc
     go false e k = e
 
@@ -64,15 +64,15 @@ pub record Placed (image : List ℕ) (raw p : ℕ) : Type 0 where
   pub good : good_image image ≡ true
   pub has : in_table (size (meaning image)) raw ≡ true
   pub place : p ≡ raw - 32
-  pub room : (p < capacity) × (24 + 8 * p + 8 ≤ length image)
+  pub room : 24 + 8 * p + 8 ≤ length image
 
-pub placed : (image : List ℕ) (h : Header) (raw p : ℕ) → Bytes image → Good h ≡ header_answer image → done (p ∷ []) ≡ place_answer (table_size h.spi_count) raw → Placed image raw p
+pub placed : (image : List ℕ) (h : Header) (raw p : ℕ) → Bytes image → Some h ≡ header_answer image → done (p ∷ []) ≡ place_answer (table_size h.spi_count) raw → Placed image raw p
 placed image h raw p bytes answer at =
     let headed = header_good image h answer in
     let (has, place) = at_place (table_size (header_of image).spi_count) raw p (rw headed.header at at) in
     let sized = good-sized image bytes headed.good in
     let range = in_range (table_size (header_of image).spi_count) raw has in
-    record { good = headed.good; has = has; place = place; room = (omega arith, omega arith) }
+    record { good = headed.good; has = has; place = place; room = omega arith }
 
 -- ---- the SPI
 

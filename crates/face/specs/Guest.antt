@@ -1,7 +1,6 @@
 -- What the parts of a read and of a write promise, for an access that is decoded already.
 use Rattle.std.specs.Prelude.{ℕ, ◌/◌, ◌≡◌, true, cond, List}
 use Rattle.theory.specs.Lists.{laid}
-use Rattle.registers.specs.declared.register.Access.{Access}
 use Rattle.registers.specs.declared.register.AccessWidth.{AccessWidth}
 use Rattle.registers.specs.declared.register.Direction.TheVariants.{Reading}
 use Rattle.decoding.specs.Decoding.{decode, write_access}
@@ -14,6 +13,7 @@ use Rattle.image.specs.Meaning.{meaning}
 use Rattle.image_model.specs.declared.told.Told.{Told}
 use Rattle.image_model.specs.Told.{told, bad_image}
 use Rattle.image_model.specs.Face.{Seen, good_where, rewritten, refuses}
+use Rattle.registers.specs.Registers.{Access}
 
 -- the image is good, and this is its header
 pub record Headed (h : Header) (image : List ℕ) : Type 0 where

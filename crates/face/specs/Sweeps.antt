@@ -1,21 +1,19 @@
 -- What the loops over an image promise.
-use Rattle.std.specs.Prelude.{ℕ, ◌+◌, ◌*◌, ◌≤◌, ◌<◌, ◌≡◌, Bool, cond, List, length}
+use Rattle.std.specs.Prelude.{ℕ, ◌+◌, ◌*◌, ◌≤◌, ◌<◌, ◌≡◌, Bool, cond, List, length, Option, Some, None}
 use Rattle.theory.specs.Lists.{laid}
 use Rattle.place.specs.Table.{capacity}
 use Rattle.slot.specs.declared.slot.Slot.{Slot}
 use Rattle.image.specs.Bytes.{number_at, flat}
 use Rattle.image.specs.Kept.{word_of}
 use Rattle.image.specs.Meaning.{record_at, meant_at}
-use Rattle.face.specs.declared.sweeps.FieldsRead.{FieldsRead}
-use Rattle.face.specs.declared.sweeps.FieldsRead.TheVariants.{Value, Bad}
 
 -- an image of n SPIs
 pub record Sized (n : ℕ) (image : List ℕ) : Type 0 where
   pub most : n ≤ capacity
   pub size : length image ≡ 24 + 8 * n
 
-abbrev pub read_answer : Bool → ℕ → FieldsRead
-read_answer good v = cond good (Value v) Bad
+abbrev pub read_answer : Bool → ℕ → Option ℕ
+read_answer good v = cond good (Some v) None
 
 -- the records of an image that are named are put as `after` says of what they meant, and the others, and the header, stay
 pub record Put (named : ℕ → Bool) (after : ℕ → Slot → Slot) (n : ℕ) (old new : List ℕ) : Type 0 where

@@ -6,9 +6,9 @@ ghost use Rattle.image.specs.Meaning.{image_of};
 ghost use Rattle.image_model.specs.Create.{settings, create_seen};
 ghost use Rattle.face.specs.Sweeps.{Sized};
 
-use controller::controller::ControllerConfig;
+use controller::controller::{ControllerConfig, GicV3SpiOwnership};
 use image::bytes::store;
-use image::header::{HEADER, first_word, ownership_in};
+use image::header::{HEADER, first_word};
 use image::kept::FRESH;
 use image_model::told::Told;
 use place::place::create_answer;
@@ -16,13 +16,12 @@ use place::place::create_answer;
 fn settings_of(ownership: u32, flags: u32, lpi_limit: u32, frame_size: u64) -> ControllerConfig
     ensures { result ≡ settings ownership flags lpi_limit frame_size }
 {
-    let spi_ownership = ownership_in(ownership == 1);
     ControllerConfig {
-        spi_ownership: spi_ownership,
+        spi_ownership: GicV3SpiOwnership::of(ownership == 1),
         distributor_size: frame_size,
         exposes_guest_lpis: flags % 2 == 1,
         its: flags / 2 % 2 == 1,
-        lpi_limit: lpi_limit,
+        lpi_limit,
         affinity_level_3: flags / 4 % 2 == 1,
         range_selector: flags / 8 % 2 == 1,
     }
@@ -33,13 +32,11 @@ fn fill(image: &mut [u8], config: ControllerConfig, count: u32)
     requires { Sized count image.old }
     ensures { image.new ≡ image_of (created config count) }
 {
-    store(image, 0, first_word(config, false, count));
-    store(image, 8, config.lpi_limit as u64);
-    store(image, 16, config.distributor_size);
-    let mut p: usize = 0;
-    while p < count as usize {
-        store(image, HEADER + 8 * p, FRESH);
-        p += 1;
+    store::<8>(image, 0, first_word(config, false, count));
+    store::<8>(image, 8, config.lpi_limit as u64);
+    store::<8>(image, 16, config.distributor_size);
+    for p in 0..count as usize {
+        store::<8>(image, HEADER + 8 * p, FRESH);
     }
 }
 
@@ -54,16 +51,16 @@ pub fn create_image(
 ) -> Told
     ensures { record { told = result; image = image.new; list = [] } ≡ create_seen count ownership flags lpi_limit frame_size image.old }
 {
-    if count > 988 {
-        return Told::of_create(create_answer(count));
+    if let Err(refusal) = create_answer(count) {
+        return Told::refused(refusal);
     }
-    if (image.len() == HEADER + 8 * count as usize) & (ownership <= 1) & (flags <= 15) {
-        fill(
-            image,
-            settings_of(ownership, flags, lpi_limit, frame_size),
-            count,
-        );
-        return Told::done(0);
+    if (image.len() != HEADER + 8 * count as usize) | (ownership > 1) | (flags > 15) {
+        return Told::BAD_IMAGE;
     }
-    Told::BAD_IMAGE
+    fill(
+        image,
+        settings_of(ownership, flags, lpi_limit, frame_size),
+        count,
+    );
+    Told::done(0)
 }

@@ -1,53 +1,47 @@
-// The guest's reads and writes, on an image.
+// The guest's reads and writes, on an image: what distributor's access.rt does by value is done in place here.
 ghost use Rattle.std.specs.Prelude.{◌≡◌, [], ◌+◌, ◌*◌, ◌≤◌, ◌<◌, length};
-ghost use Rattle.bank.specs.Banks.{bits_of};
 ghost use Rattle.decoding.specs.Bounds.{Bounded, Whole};
 ghost use Rattle.controller.specs.Modes.{explicit};
 ghost use Rattle.image_model.specs.Face.{read, write, seen};
 ghost use Rattle.face.specs.Guest.{Headed, decode_in, write_access_in, read_told, write_seen};
 
-use crate::sweeps::{FieldsRead, all_good, are_good, list_deliverable, read_fields, write_fields};
-use answers::answer::{read_answer, write_answer};
-use bank::bank::{Bank, read_beyond, write_beyond};
+use crate::sweeps::{all_good, are_good, list_deliverable, read_fields, write_fields};
+use answers::answer::unless_beyond;
+use bank::bank::lists_unless;
 use controller::identity::{IIDR, component_id, ctlr, switch_bit, typer};
 use decoding::decode::{decode, write_access};
-use image::header::{Header, HeaderAnswer, read_header};
-use image_model::told::{Told, WidthAnswer, width_of};
-use registers::register::{Access, AccessWidth, Direction, Register};
+use decoding::fields::Fields;
+use image::header::{Header, read_header};
+use image_model::told::Told;
+use registers::register::{AccessWidth, Direction, Register};
 
-fn is_explicit(header: Header) -> bool
-    ensures { result ≡ explicit header.config.spi_ownership }
+fn read_bank(image: &[u8], header: Header, fields: Fields) -> Told
+    requires { Headed header image.now × (fields.first < 32 → fields.first + fields.count ≤ 32) }
+    ensures { result ≡ read_told image.now (Ok (Register.Fields fields.bank fields.first fields.count)) }
 {
-    let config = header.config;
-    let ownership = config.spi_ownership;
-    ownership.is_explicit()
-}
-
-fn read_bank(image: &[u8], header: Header, bank: Bank, lo: u32, m: u32) -> Told
-    requires { Headed header image.now × (lo < 0x10000) × (m ≤ 64) × (bits_of bank * m ≤ 64) × (lo < 32 → lo + m ≤ 32) }
-    ensures { result ≡ read_told image.now (Access.To (Register.Fields bank lo m)) }
-{
-    let explicit = is_explicit(header);
+    let explicit = header.config.spi_ownership.is_explicit();
     let count = header.spi_count;
-    match read_fields(image, explicit, count, bank, lo, m) {
-        FieldsRead::Value(value) => {
-            let beyond = read_beyond(explicit, count, bank, lo, m);
-            Told::of_read(read_answer(beyond, value))
-        }
-        FieldsRead::Bad => Told::BAD_IMAGE,
-    }
+    let Some(value) = read_fields(image, explicit, count, fields) else {
+        return Told::BAD_IMAGE;
+    };
+    let beyond = fields.read_beyond(explicit, count);
+    Told::of(unless_beyond(beyond, value))
 }
 
 fn read_register(image: &[u8], header: Header, register: Register) -> Told
     requires { Headed header image.now × Bounded register × Whole register }
-    ensures { result ≡ read_told image.now (Access.To register) }
+    ensures { result ≡ read_told image.now (Ok register) }
 {
     match register {
         Register::Identification(k) => Told::done(component_id(k)),
         Register::Ctlr => Told::done(ctlr(header.enabled)),
         Register::Typer => Told::done(typer(header.config, header.spi_count)),
         Register::Iidr => Told::done(IIDR),
-        Register::Fields(bank, lo, m) => read_bank(image, header, bank, lo, m),
+        Register::Fields(bank, first, count) => read_bank(
+            image,
+            header,
+            Fields { bank, first, count },
+        ),
         Register::Reserved => Told::done(0),
     }
 }
@@ -56,10 +50,10 @@ fn read_at(image: &[u8], header: Header, offset: u64, width: AccessWidth) -> Tol
     requires { Headed header image.now }
     ensures { result ≡ read_told image.now (decode_in header offset width) }
 {
-    let config = header.config;
-    match decode(Direction::Reading, config.distributor_size, offset, width) {
-        Access::To(register) => read_register(image, header, register),
-        Access::Refused(refusal) => Told::refused(refusal),
+    let frame = header.config.distributor_size;
+    match decode(Direction::Reading, frame, offset, width) {
+        Ok(register) => read_register(image, header, register),
+        Err(refusal) => Told::refused(refusal),
     }
 }
 
@@ -68,63 +62,53 @@ fn read_at(image: &[u8], header: Header, offset: u64, width: AccessWidth) -> Tol
 pub fn read_image(image: &[u8], offset: u64, width: u32) -> Told
     ensures { result ≡ (seen (read offset width) image.now []).told }
 {
-    match read_header(image) {
-        HeaderAnswer::Good(header) => match width_of(width) {
-            WidthAnswer::Of(w) => read_at(image, header, offset, w),
-            WidthAnswer::No => Told::BAD_WIDTH,
-        },
-        HeaderAnswer::Bad => Told::BAD_IMAGE,
-    }
+    let Some(header) = read_header(image) else {
+        return Told::BAD_IMAGE;
+    };
+    let Ok(width) = AccessWidth::try_from(width) else {
+        return Told::BAD_WIDTH;
+    };
+    read_at(image, header, offset, width)
 }
 
 // Refused 1 or not, the fields inside the table are written.
-fn write_bank(
-    image: &mut [u8],
-    list: &mut [u8],
-    header: Header,
-    bank: Bank,
-    lo: u32,
-    m: u32,
-    value: u64,
-) -> Told
-    requires { Headed header image.old × (lo < 0x10000) × (m ≤ 64) × (4 * header.spi_count ≤ length list.old) }
-    ensures { record { told = result; image = image.new; list = list.new } ≡ write_seen image.old list.old (Access.To (Register.Fields bank lo m)) value }
+fn write_bank(image: &mut [u8], list: &mut [u8], header: Header, fields: Fields, value: u64) -> Told
+    requires { Headed header image.old × (4 * header.spi_count ≤ length list.old) }
+    ensures { record { told = result; image = image.new; list = list.new } ≡ write_seen image.old list.old (Ok (Register.Fields fields.bank fields.first fields.count)) value }
 {
-    let explicit = is_explicit(header);
+    let explicit = header.config.spi_ownership.is_explicit();
     let count = header.spi_count;
-    if are_good(image, count, bank, lo, m, value) {
-        let beyond = write_beyond(explicit, count, bank, value, lo, m);
-        let listed = write_fields(
-            image,
-            list,
-            explicit,
-            count,
-            bank,
-            lo,
-            m,
-            value,
-            beyond.lists(),
-        );
-        return Told::of_write(write_answer(beyond, listed));
+    if !are_good(image, count, fields, value) {
+        return Told::BAD_IMAGE;
     }
-    Told::BAD_IMAGE
+    let beyond = fields.write_beyond(explicit, count, value);
+    let listed = write_fields(
+        image,
+        list,
+        explicit,
+        count,
+        fields,
+        value,
+        lists_unless(beyond),
+    );
+    Told::of(unless_beyond(beyond, listed))
 }
 
 // Turned on, the switch lists what is deliverable, and so names every SPI.
 fn write_ctlr(image: &mut [u8], list: &mut [u8], header: Header, value: u64) -> Told
     requires { Headed header image.old × (4 * header.spi_count ≤ length list.old) }
-    ensures { record { told = result; image = image.new; list = list.new } ≡ write_seen image.old list.old (Access.To Register.Ctlr) value }
+    ensures { record { told = result; image = image.new; list = list.new } ≡ write_seen image.old list.old (Ok Register.Ctlr) value }
 {
-    if switch_bit(value) {
-        if all_good(image, header.spi_count) {
-            let listed = list_deliverable(image, list, header.spi_count);
-            image[0] = 1;
-            return Told::done(listed as u64);
-        }
+    if !switch_bit(value) {
+        image[0] = 0;
+        return Told::done(0);
+    }
+    if !all_good(image, header.spi_count) {
         return Told::BAD_IMAGE;
     }
-    image[0] = 0;
-    Told::done(0)
+    let listed = list_deliverable(image, list, header.spi_count);
+    image[0] = 1;
+    Told::done(listed as u64)
 }
 
 fn write_register(
@@ -135,15 +119,21 @@ fn write_register(
     value: u64,
 ) -> Told
     requires { Headed header image.old × Bounded register × (4 * header.spi_count ≤ length list.old) }
-    ensures { record { told = result; image = image.new; list = list.new } ≡ write_seen image.old list.old (Access.To register) value }
+    ensures { record { told = result; image = image.new; list = list.new } ≡ write_seen image.old list.old (Ok register) value }
 {
     match register {
-        Register::Identification(_) => Told::done(0),
         Register::Ctlr => write_ctlr(image, list, header, value),
-        Register::Typer => Told::done(0),
-        Register::Iidr => Told::done(0),
-        Register::Fields(bank, lo, m) => write_bank(image, list, header, bank, lo, m, value),
-        Register::Reserved => Told::done(0),
+        Register::Fields(bank, first, count) => write_bank(
+            image,
+            list,
+            header,
+            Fields { bank, first, count },
+            value,
+        ),
+        // Nothing else takes a write.
+        Register::Identification(_) | Register::Typer | Register::Iidr | Register::Reserved => {
+            Told::done(0)
+        }
     }
 }
 
@@ -158,17 +148,11 @@ fn write_at(
     requires { Headed header image.old }
     ensures { record { told = result; image = image.new; list = list.new } ≡ write_seen image.old list.old (write_access_in header (length list.old) offset width) value }
 {
-    let config = header.config;
     let places = list.len() / 4;
-    match write_access(
-        places,
-        header.spi_count,
-        config.distributor_size,
-        offset,
-        width,
-    ) {
-        Access::To(register) => write_register(image, list, header, register, value),
-        Access::Refused(refusal) => Told::refused(refusal),
+    let frame = header.config.distributor_size;
+    match write_access(places, header.spi_count, frame, offset, width) {
+        Ok(register) => write_register(image, list, header, register, value),
+        Err(refusal) => Told::refused(refusal),
     }
 }
 
@@ -176,11 +160,11 @@ fn write_at(
 pub fn write_image(image: &mut [u8], list: &mut [u8], offset: u64, width: u32, value: u64) -> Told
     ensures { record { told = result; image = image.new; list = list.new } ≡ seen (write offset width value) image.old list.old }
 {
-    match read_header(image) {
-        HeaderAnswer::Good(header) => match width_of(width) {
-            WidthAnswer::Of(w) => write_at(image, list, header, offset, w, value),
-            WidthAnswer::No => Told::BAD_WIDTH,
-        },
-        HeaderAnswer::Bad => Told::BAD_IMAGE,
-    }
+    let Some(header) = read_header(image) else {
+        return Told::BAD_IMAGE;
+    };
+    let Ok(width) = AccessWidth::try_from(width) else {
+        return Told::BAD_WIDTH;
+    };
+    write_at(image, list, header, offset, width, value)
 }

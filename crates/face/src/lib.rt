@@ -4,6 +4,5 @@
 
 pub mod calls;
 pub mod create;
-pub mod face;
 pub mod guest;
 pub mod sweeps;

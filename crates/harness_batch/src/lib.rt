@@ -2,5 +2,4 @@
 #![tactic(auto)]
 
 pub mod bench;
-pub mod little_endian;
 pub mod sequence;

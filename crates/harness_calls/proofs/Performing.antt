@@ -1,4 +1,5 @@
 -- From what the parts of `run` promise to what the call promises.
+use Rattle.std.specs.Prelude.{Err}
 use Prim.Native.Nat.{ℕ, zero, suc, ◌≤◌, min}
 use mathlib.Core.Path.{◌≡◌, refl, sym, ap, subst, ◌∙◌}
 use mathlib.Core.Bool.{Bool, true, false, cond}
@@ -14,7 +15,6 @@ use Rattle.theory.specs.MapAtLaws.{map_at_still}
 use Rattle.identifiers.specs.Answer as told
 use Rattle.identifiers.specs.Answer.{done, refused, within, told_refusal, told_spi, id_answer}
 use Rattle.identifiers.specs.declared.error.Refusal.{Refusal}
-use Rattle.identifiers.specs.declared.types.SpiIdAnswer.{SpiIdAnswer}
 use Rattle.place.specs.Table.{create_answer, created_count, table_size, in_table}
 use Rattle.place.specs.TableLaws.{in_range}
 use Rattle.bank.specs.Banks.{bit}
@@ -24,7 +24,6 @@ use Rattle.registers.specs.declared.register.Direction.TheVariants.{Reading}
 use Rattle.decoding.specs.Decoding.{decode}
 use Rattle.slot.specs.declared.slot.Slot.{Slot}
 use Rattle.changes.specs.declared.change.Change.{Change}
-use Rattle.spi.specs.declared.change.ChangeAnswer.{ChangeAnswer}
 use Rattle.spi.specs.declared.question.Question.{Question}
 use Rattle.model.specs.Calls.{Distributor, Call, create, read, write, is_switched_on, rollback, change, ask, Reply, Outcome, outcome, created, reply, step}
 use Rattle.model.specs.Replies.{candidates_fit}
@@ -43,7 +42,7 @@ use Rattle.harness_calls.specs.CodeRuns.{read_unlisted}
 -- ---- the makers of SPI identifiers, and the table
 
 -- a number that is no SPI's is in no table
-pub spi_refused : (count raw : ℕ) (f : Refusal) → told_spi (SpiIdAnswer.Refused f) ≡ id_answer 32 1020 raw
+pub spi_refused : (count raw : ℕ) (f : Refusal) → told_spi (Err f) ≡ id_answer 32 1020 raw
     → (in_table (table_size count) raw ≡ false) × (told_refusal f ≡ refused 1 (raw ∷ []))
 spi_refused count raw f h = go (in_table (table_size count) raw) refl (within 32 1020 raw) refl h
   where
@@ -92,16 +91,16 @@ module _ (d : DistributorState) (raw : ℕ) where
     abbrev Done : Ran → Type 0
     Done r = (model_of r.state ≡ step (change h raw) D) × (r.answer ≡ valued (reply (change h raw) D).answer)
 
-    pub unchanged_spi : (f : Refusal) (r : Ran) → told_spi (SpiIdAnswer.Refused f) ≡ id_answer 32 1020 raw → r ≡ of d (valued (told_refusal f)) → Done r
+    pub unchanged_spi : (f : Refusal) (r : Ran) → told_spi (Err f) ≡ id_answer 32 1020 raw → r ≡ of d (valued (told_refusal f)) → Done r
     unchanged_spi f r e p =
         let o = spi_refused d.spi_count raw f e in
-        let k = changed_out d raw h (record { state = d; answer = ChangeAnswer.Refused f }) o.0 refl o.1 in (
+        let k = changed_out d raw h (record { state = d; answer = Err f }) o.0 refl o.1 in (
           ap (λ (y : Ran). model_of y.state) p ∙ k.0,
           ap (λ (y : Ran). y.answer) p ∙ ap (λ (y : Reply). valued y.answer) k.1,
         )
 
   module _ (q : Question) where
-    pub unasked_spi : (f : Refusal) → told_spi (SpiIdAnswer.Refused f) ≡ id_answer 32 1020 raw → {a : Answer} → a ≡ valued (told_refusal f) → a ≡ asked q (reply (ask q raw) D).answer
+    pub unasked_spi : (f : Refusal) → told_spi (Err f) ≡ id_answer 32 1020 raw → {a : Answer} → a ≡ valued (told_refusal f) → a ≡ asked q (reply (ask q raw) D).answer
     unfolding reply
     unasked_spi f e p = let o = spi_refused d.spi_count raw f e in p ∙ ap valued o.1 ∙ (rw o.0)
 

@@ -1,6 +1,6 @@
 -- A run of the code is a run of the definition. Each call is as `run` promises it, from the state that the call before it left; so what
 -- is proved of every run of `step` holds of the code.
-use Rattle.std.specs.Prelude.{ℕ, zero, suc, ◌≤◌, ◌<◌, ◌≡◌, Bool, true, false, List, [], ◌∷◌, ◌++◌, take, drop}
+use Rattle.std.specs.Prelude.{ℕ, zero, suc, ◌≤◌, ◌<◌, ◌≡◌, Bool, true, false, List, [], ◌∷◌, ◌++◌, take, drop, Ok, Err}
 use Rattle.std.proofs.Math.Path.{refl, ap}
 use Rattle.std.proofs.Common.{sym, subst, ◌∙◌}
 use Rattle.std.proofs.Math.Option.{Option, some, none}
@@ -9,8 +9,6 @@ use Rattle.theory.specs.Runs.{run, answers, naming, Matching}
 use Rattle.identifiers.specs.Answer as told
 use Rattle.registers.specs.declared.register.AccessWidth.{AccessWidth}
 use Rattle.registers.specs.declared.register.Register.TheVariants.{Identification, Ctlr, Typer, Iidr, Fields, Reserved}
-use Rattle.registers.specs.declared.register.Access.{Access}
-use Rattle.registers.specs.declared.register.Access.TheVariants.{To, Refused}
 use Rattle.registers.specs.declared.register.Direction.TheVariants.{Reading}
 use Rattle.decoding.specs.Decoding.{decode}
 use Rattle.spi.specs.declared.question.Question.{Question}
@@ -29,6 +27,7 @@ use Rattle.harness_numbers.specs.Numbers as numbered
 use Rattle.harness_numbers.specs.Numbers.{Meaning, calls, call_of, numbers_of, valued, asked}
 use Rattle.harness_calls.specs.declared.run.Ran.{Ran}
 use Rattle.harness_calls.specs.Ran.{after, Performed, RanAs}
+use Rattle.registers.specs.Registers.{Access}
 
 -- what is seen of a call: its answer, and the candidates, which are in the first `count` places of the room
 pub record Seen : Type 0 where
@@ -75,13 +74,13 @@ asked-count q (told.refused n vs) = refl
 
 module _ (d : Distributor) where
   pub read_unlisted : (a : Access) → (read_reply d a).candidates ≡ []
-  read_unlisted (Refused f) = refl
-  read_unlisted (To (Identification k)) = refl
-  read_unlisted (To Ctlr) = refl
-  read_unlisted (To Typer) = refl
-  read_unlisted (To Iidr) = refl
-  read_unlisted (To (Fields b lo m)) = refl
-  read_unlisted (To Reserved) = refl
+  read_unlisted (Err f) = refl
+  read_unlisted (Ok (Identification k)) = refl
+  read_unlisted (Ok Ctlr) = refl
+  read_unlisted (Ok Typer) = refl
+  read_unlisted (Ok Iidr) = refl
+  read_unlisted (Ok (Fields b lo m)) = refl
+  read_unlisted (Ok Reserved) = refl
 
   write_count : (offset : ℕ) (w : AccessWidth) (v places : ℕ) → (numbered.listed (reply (write offset w v places) d).answer).count ≡ length (reply (write offset w v places) d).candidates
   write_count offset w v places = go (reply (write offset w v places) d) (write_lists d offset w v places)

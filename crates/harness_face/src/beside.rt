@@ -1,23 +1,29 @@
 // The face beside the core: an image that every call of a list is also run on, if the face has it. There it has to answer and to leave
 // what the core does. For any other call the image gets the bytes of the core's state.
+ghost use Rattle.std.specs.Prelude.{◌≤◌};
+ghost use Rattle.harness_face.specs.declared.beside.TheConstants.{NUMBERS};
+
 use crate::apart;
-use crate::apart::{Apart, LIST, PLACES};
-use face::face::{
-    dhunglebi_claim_physical, dhunglebi_claim_software, dhunglebi_create, dhunglebi_pulse,
-    dhunglebi_read, dhunglebi_release, dhunglebi_set_level, dhunglebi_write,
-};
+use crate::apart::{Apart, LIST, Part};
+use changes::change::Change;
+use face::calls::change_image;
+use face::create::create_image;
+use face::guest::{read_image, write_image};
 use harness_numbers::answer::Answer;
-use harness_numbers::call::Call;
-use harness_numbers::guest;
-use harness_numbers::number::{bit, low_word};
+use harness_numbers::call::{Call, Family};
+use harness_numbers::guest::PLACES;
+use harness_numbers::number::low_word;
+use harness_numbers::{call, guest};
 use image::bytes::{load, store};
 use image_model::told::Told;
+use operation::operation::Operation;
 use place::place::SPIS;
 
-// An image of 988 SPIs has so many numbers of 8 bytes: 3 of the header, and one an SPI. Those of fewer SPIs are lent its first bytes.
-const NUMBERS: usize = 991;
+// An image of 988 SPIs has so many numbers of 8 bytes: 3 of the header, and one an SPI. One of fewer SPIs is lent the first of them.
+const NUMBERS: usize = 3 + SPIS;
 
-pub const IMAGE: usize = 7928;
+// Their bytes.
+pub const IMAGE: usize = 8 * NUMBERS;
 
 // What stands in every byte of an image that a creation is lent, and of a list.
 const UNTOUCHED: u8 = 0xff;
@@ -25,92 +31,77 @@ const UNTOUCHED: u8 = 0xff;
 // What `out` has before a call. Every call writes it.
 const UNWRITTEN: u64 = 0x5a5a_5a5a_5a5a_5a5a;
 
-// Whether the face has a call of this number.
-pub fn has(op: u64) -> bool {
-    match op {
-        0x10..=0x12 | 0x15..=0x17 | 0x37..=0x38 => true,
-        _ => false,
-    }
+// Whether the face has this change.
+fn of_face(change: Change) -> bool {
+    matches!(
+        change,
+        Change::Claim
+            | Change::ClaimTo(_)
+            | Change::Release
+            | Change::Operate(Operation::SetLevel(_) | Operation::Pulse)
+    )
 }
 
-// The core's state but for the slots: what its image has as a header, in numbers of 8 bytes.
-#[derive(Clone, Copy)]
+// The core's state but for the slots, as its image has it.
+#[derive(Clone, Copy, Debug, PartialEq, Eq)]
 pub struct Head {
-    // Where there is no Distributor, the last creation was refused, and has left its image untouched.
-    made: bool,
-    // How many numbers the image has.
+    // How many numbers of 8 bytes the image has.
     numbers: usize,
-    first: u64,
-    lpi_limit: u64,
-    frame_size: u64,
-}
-
-// So many numbers are lent to a call. A creation of more SPIs than there can be is lent them all.
-fn numbers(count: u64) -> usize {
-    if count <= SPIS as u64 {
-        count as usize + 3
-    } else {
-        NUMBERS
-    }
+    // The header's three. None where there is no Distributor: the last creation was refused, and has left its image untouched.
+    header: Option<[u64; 3]>,
+    ghost within: { numbers ≤ NUMBERS },
 }
 
 impl Head {
-    // By the last creation and by the switch. A creation's settings have the ownership in bit 0, and then the four flags.
-    pub fn new(creation: Call, made: bool, switch: bool) -> Head {
-        let count = creation.a;
-        let settings = creation.b;
+    // By the last creation, whether it was done, and the switch. A creation's settings have the ownership in bit 0, and then the four
+    // flags. One of more SPIs than there can be is lent all the bytes.
+    pub fn new(creation: Call, made: bool, switch: bool) -> Self {
+        let Call {
+            a: count,
+            b: settings,
+            c: frame_size,
+            d: lpi_limit,
+            ..
+        } = creation;
+        let first = switch as u64 | (settings % 2) << 8 | (settings / 2) << 16 | count << 32;
         Head {
-            made: made,
-            numbers: numbers(count),
-            first: bit(switch) | (settings % 2) << 8 | (settings / 2) << 16 | count << 32,
-            lpi_limit: creation.d,
-            frame_size: creation.c,
+            numbers: count.min(SPIS as u64) as usize + 3,
+            header: made.then_some([first, lpi_limit, frame_size]),
         }
     }
 
     // A number of the image: of the header, or the slot of an SPI.
     fn number(self, slots: &[u64; SPIS], i: usize) -> u64 {
-        if !self.made {
+        let Some(header) = self.header else {
             return u64::MAX;
-        }
-        match i {
-            0 => self.first,
-            1 => self.lpi_limit,
-            2 => self.frame_size,
-            _ => slot(slots, std::num::wrapping_sub_usize(i, 3)),
+        };
+        if i < 3 {
+            header[i]
+        } else {
+            slots.get(i - 3).copied().unwrap_or(0)
         }
     }
-}
-
-fn slot(slots: &[u64; SPIS], place: usize) -> u64 {
-    if place < SPIS { slots[place] } else { 0 }
 }
 
 // The image gets the bytes of the core's state.
 fn lay_out(image: &mut [u8; IMAGE], head: Head, slots: &[u64; SPIS]) {
-    let mut i = 0;
-    while i < NUMBERS && i < head.numbers {
-        store(image, 8 * i, head.number(slots, i));
-        i += 1;
+    for i in 0..head.numbers {
+        store::<8>(image, 8 * i, head.number(slots, i));
     }
 }
 
-// The whole image has the bytes of the core's state.
-fn in_image(image: &[u8; IMAGE], head: Head, slots: &[u64; SPIS]) -> Apart {
-    let mut i = 0;
-    while i < NUMBERS && i < head.numbers {
-        let core = head.number(slots, i);
-        let face = load(image, 8 * i);
-        if core != face {
-            return apart::in_image(8 * i, core, face);
-        }
-        i += 1;
-    }
-    // Nothing is.
-    apart::in_image(0, 0, 0)
+// The image has the bytes of the core's state.
+fn in_image(image: &[u8; IMAGE], head: Head, slots: &[u64; SPIS]) -> Option<Apart<Part>> {
+    (0..head.numbers).find_map(|i| {
+        Apart::between(
+            Part::Image(8 * i),
+            head.number(slots, i),
+            load(image, 8 * i),
+        )
+    })
 }
 
-// The core has run the call and answered so, with these places in its list and these slots.
+// The core has run the call and answered so, with these places in its list and these slots. Whether the face has run it too.
 pub fn follow(
     image: &mut [u8; IMAGE],
     head: Head,
@@ -118,45 +109,46 @@ pub fn follow(
     answer: Answer,
     list: &[u32; PLACES],
     slots: &[u64; SPIS],
-) -> Apart {
-    if !has(call.op) {
-        lay_out(image, head, slots);
-        return apart::in_image(0, 0, 0);
-    }
-    if call.op == 0x10 {
+) -> Result<bool, Apart<Part>> {
+    let family = call::family_of(call.op, call.b);
+    if family == Family::Creation {
         *image = [UNTOUCHED; IMAGE];
     }
     let mut bytes = [UNTOUCHED; LIST];
-    let told = run(image, head.numbers, &mut bytes, call);
-    let first = apart::in_answer(answer, told).or(apart::in_list(list, &bytes));
-    first.or(in_image(image, head, slots))
-}
-
-// Runs a call on the first bytes of an image, as many as it has numbers, and on the first places of a list, as many as the call says.
-fn run(image: &mut [u8], numbers: usize, list: &mut [u8], call: Call) -> Told {
-    let lent = guest::lent(numbers as u64, image.len() / 8);
-    let places = guest::lent(call.d, list.len() / 4);
-    through_face(&mut image[..8 * lent], &mut list[..4 * places], call)
-}
-
-fn through_face(image: &mut [u8], list: &mut [u8], call: Call) -> Told {
-    let op = call.op;
-    let a = low_word(call.a);
-    let b = low_word(call.b);
-    let mut out = UNWRITTEN;
-    let number = match op {
-        0x10 => dhunglebi_create(image, a, b % 2, b / 2, low_word(call.d), call.c, &mut out),
-        0x11 => dhunglebi_read(image, call.a, b, &mut out),
-        0x12 => dhunglebi_write(image, list, call.a, b, call.c, &mut out),
-        0x15 => dhunglebi_claim_software(image, a, &mut out),
-        0x16 => dhunglebi_claim_physical(image, a, call.b, &mut out),
-        0x17 => dhunglebi_release(image, a, &mut out),
-        0x37 => dhunglebi_set_level(image, a, b, &mut out),
-        // 0x38
-        _ => dhunglebi_pulse(image, a, &mut out),
+    let places = guest::lent(call.d, PLACES);
+    let told = through_face(
+        &mut image[..8 * head.numbers],
+        &mut bytes[..4 * places],
+        call,
+        family,
+    );
+    let Some(told) = told else {
+        lay_out(image, head, slots);
+        return Ok(false);
     };
-    Told {
-        number: number,
-        out: out,
+    let apart = apart::in_answer(answer, told)
+        .or_else(|| apart::in_list(list, &bytes))
+        .or_else(|| in_image(image, head, slots));
+    match apart {
+        Some(apart) => Err(apart),
+        None => Ok(true),
     }
+}
+
+// Runs a call on an image, and on a list of as many places as it is lent, by the functions that the C face calls. None where the face
+// has no such call.
+fn through_face(image: &mut [u8], list: &mut [u8], call: Call, family: Family) -> Option<Told> {
+    let Call { a, b, c, d, .. } = call;
+    let low_a = low_word(a);
+    let low_b = low_word(b);
+    let told = match family {
+        Family::Creation => create_image(image, low_a, low_b % 2, low_b / 2, low_word(d), c),
+        Family::Read => read_image(image, a, low_b),
+        Family::Write => write_image(image, list, a, low_b, c),
+        Family::Change(change) if of_face(change) => change_image(image, low_a, change),
+        _ => return None,
+    };
+    let mut out = UNWRITTEN;
+    let number = told.tell(&mut out);
+    Some(Told { number, out })
 }

@@ -1,4 +1,4 @@
-// The calls by number.
+// The calls by number, as a list and the Rust name them.
 ghost use Rattle.std.specs.Prelude.{◌≡◌};
 ghost use Rattle.harness_numbers.specs.Numbers.{family_of};
 
@@ -8,7 +8,7 @@ use changes::change::Change;
 use operation::operation::Operation;
 use spi::question::Question;
 
-#[derive(Clone, Copy)]
+#[derive(Clone, Copy, Debug, PartialEq, Eq)]
 pub struct Call {
     pub op: u64,
     pub a: u64,
@@ -18,7 +18,7 @@ pub struct Call {
 }
 
 // What a call is about. Those of one family are run by one function.
-#[derive(Clone, Copy)]
+#[derive(Clone, Copy, Debug, PartialEq, Eq)]
 pub enum Family {
     Identifier,
     Creation,

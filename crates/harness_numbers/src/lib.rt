@@ -3,7 +3,6 @@
 
 pub mod answer;
 pub mod call;
-pub mod change;
 pub mod guest;
 pub mod identifier;
 pub mod number;

@@ -1,5 +1,4 @@
 // Records and affinities as numbers (docs/ORACLE.md, "The list"). A slot is the number that an image keeps it as.
-use crate::number::wide;
 use attributes::attributes::GicAffinity;
 use image::kept::word_of;
 use interrupt::interrupt::InterruptRecord;
@@ -19,8 +18,10 @@ pub fn record(irq: InterruptRecord) -> u64 {
 
 // The levels of an affinity, a byte each, level 0 lowest.
 pub fn levels(affinity: GicAffinity) -> u64 {
-    wide(affinity.aff0())
-        | wide(affinity.aff1()) << 8
-        | wide(affinity.aff2()) << 16
-        | wide(affinity.aff3()) << 24
+    u32::from_le_bytes([
+        affinity.aff0(),
+        affinity.aff1(),
+        affinity.aff2(),
+        affinity.aff3(),
+    ]) as u64
 }

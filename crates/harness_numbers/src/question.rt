@@ -2,41 +2,34 @@
 ghost use Rattle.std.specs.Prelude.{◌≡◌};
 ghost use Rattle.harness_numbers.specs.Values.{route_number, value_number, seen_question};
 
-use crate::answer;
 use crate::answer::Answer;
-use crate::number::{bit, of_state, of_trigger, wide, wide_word};
-use interrupt::interrupt::Route;
-use spi::question::{QuestionAnswer, Value};
+use attributes::attributes::GicAffinity;
+use identifiers::error::Refusal;
+use spi::question::Value;
 
-pub fn seen(answer: QuestionAnswer) -> Answer
+pub fn seen(answer: Result<Value, Refusal>) -> Answer
     ensures { result ≡ seen_question answer }
 {
-    match answer {
-        QuestionAnswer::Done(value) => answer::done(number_of(value)),
-        QuestionAnswer::Refused(refusal) => answer::refused(refusal),
-    }
+    Answer::seen(answer.map(number_of))
 }
 
 fn number_of(value: Value) -> u64
     ensures { result ≡ value_number value }
 {
     match value {
-        Value::Intid(intid) => wide_word(intid),
-        Value::Flag(on) => bit(on),
-        Value::State(state) => of_state(state),
-        Value::Priority(priority) => wide(priority.raw()),
-        Value::Trigger(trigger) => of_trigger(trigger),
+        Value::Intid(intid) => intid as u64,
+        Value::Flag(on) => on as u64,
+        Value::State(state) => state.number(),
+        Value::Priority(priority) => priority.raw() as u64,
+        Value::Trigger(trigger) => !trigger.is_level() as u64,
         Value::Route(route) => route_number(route),
-        Value::Mask(cores) => wide(cores),
+        Value::Mask(cores) => cores as u64,
     }
 }
 
 // 2^40 and the packed affinity, so that the route 0.0.0.0 is not an absent one.
-fn route_number(route: Route) -> u64
+fn route_number(route: Option<GicAffinity>) -> u64
     ensures { result ≡ route_number route }
 {
-    match route {
-        Route::To(affinity) => 0x100_0000_0000 + affinity.mpidr(),
-        Route::Unset => 0,
-    }
+    route.map_or(0, |affinity| 0x100_0000_0000 + affinity.mpidr())
 }

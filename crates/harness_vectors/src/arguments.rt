@@ -1,49 +1,43 @@
 // What the arguments of a call may be (docs/ORACLE.md, "The calls"), and how many candidates it may list.
-use crate::line::Seen;
-use harness_numbers::call;
+use crate::line::Line;
 use harness_numbers::call::{Call, Family};
+use registers::register::AccessWidth;
 
-const ANY: u64 = 0xffff_ffff_ffff_ffff;
+const ANY: u64 = u64::MAX;
 
-const WORD: u64 = 0xffff_ffff;
+const WORD: u64 = u32::MAX as u64;
 
-// Whether there is such a call, each argument is one that it can have, and it lists no more candidates than it can. `made` says
-// whether there is a Distributor, of `spis` SPIs; only the identifiers and a creation do without.
-pub fn proper(call: Call, seen: Seen, made: bool, spis: u64) -> bool {
-    let op = call.op;
-    let alone = op <= 0x10;
-    (made | alone)
-        & known(op)
-        & (call.a <= largest_a(op))
-        & (call.b <= largest_b(op))
-        & (call.c <= largest_c(op))
-        & (call.d <= largest_d(op, spis))
-        & ((op != 0x11) & (op != 0x12) | is_width(call.b))
-        & (seen.candidates <= most_candidates(call, seen.kind, spis))
+// Whether there is such a call, each argument is one that it can have, and it lists no more candidates than it can. `spis` says
+// of how many SPIs the Distributor is, if there is one; only the identifiers and a creation do without.
+pub fn are_proper(line: &Line, spis: Option<u64>) -> bool {
+    let Call { op, a, b, c, d } = line.call;
+    let family = line.family();
+    let count = spis.unwrap_or(0);
+    (spis.is_some() || matches!(family, Family::Identifier | Family::Creation))
+        && family != Family::Unknown
+        && a <= largest_a(op)
+        && b <= largest_b(op)
+        && c <= largest_c(op)
+        && d <= largest_d(op, count)
+        && is_width(family, b)
+        && line.candidates.len() as u64 <= most_candidates(line, count)
 }
 
 // Only a write that is done lists candidates, and each of them is an SPI and takes a place of the lent list.
-fn most_candidates(call: Call, kind: u64, spis: u64) -> u64 {
-    if (call.op != 0x12) | (kind != 0) {
-        0
-    } else if call.d < spis {
-        call.d
+fn most_candidates(line: &Line, spis: u64) -> u64 {
+    if line.family() == Family::Write && line.kind == 0 {
+        spis.min(line.call.d)
     } else {
-        spis
+        0
     }
 }
 
-fn known(op: u64) -> bool {
-    match call::family_of(op, 0) {
-        Family::Unknown => false,
-        _ => true,
-    }
+// Only a read and a write have a width.
+fn is_width(family: Family, bytes: u64) -> bool {
+    !matches!(family, Family::Read | Family::Write) || AccessWidth::try_from(bytes).is_ok()
 }
 
-fn is_width(bytes: u64) -> bool {
-    (bytes == 1) | (bytes == 2) | (bytes == 4) | (bytes == 8)
-}
-
+// The largest arguments, a row for each number of a call, as that page has them.
 fn largest_a(op: u64) -> u64 {
     match op {
         // A byte.
@@ -92,7 +86,7 @@ fn largest_d(op: u64, spis: u64) -> u64 {
         // The LPI limit.
         0x10 => WORD,
         // Places: 8 more than there are SPIs.
-        0x12 => std::num::wrapping_add_u64(spis, 8),
+        0x12 => spis.wrapping_add(8),
         // None.
         _ => 0,
     }

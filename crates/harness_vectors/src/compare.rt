@@ -1,109 +1,77 @@
 // All that is seen of a call, held against its line: the answer, the switch, every place of the lent list and every slot.
-use crate::line;
-use crate::line::{CANDIDATES, Seen, WORDS};
-use harness_face::apart::PLACES;
+use crate::line::Line;
+use harness_face::apart::{Apart, Compared};
 use harness_numbers::answer::Answer;
-use harness_numbers::number::{bit, wide_word};
+use harness_numbers::guest::{PLACES, UNTOUCHED};
 use image::kept::word_of;
 use place::place::SPIS;
 use slot::slot::Slot;
+use std::fmt;
 
-// What stands in each place of the list when it is lent. It is no INTID.
-pub const UNTOUCHED: u32 = 0xffff_ffff;
-
-#[derive(Clone, Copy)]
+#[derive(Clone, Copy, Debug, PartialEq, Eq)]
 pub enum What {
     Kind,
     Payload,
     Count,
     Switch,
     // A place of the lent list.
-    Place,
-    Slot,
+    Place(usize),
+    // The slot of a place of the table.
+    Slot(usize),
 }
 
-// What the line and the call have of a thing, and where it stands. There is no difference where they have the same.
-#[derive(Clone, Copy)]
-pub struct Difference {
-    pub what: What,
-    pub at: usize,
-    pub listed: u64,
-    pub here: u64,
-}
-
-impl Difference {
-    pub fn is_nothing(self) -> bool {
-        self.listed == self.here
-    }
-
-    // The first of two that is something.
-    pub fn or(self, second: Difference) -> Difference {
-        if self.is_nothing() { second } else { self }
+impl fmt::Display for What {
+    fn fmt<W: fmt::Write>(&self, f: &mut fmt::Formatter<W>) -> fmt::Result {
+        match *self {
+            What::Kind => f.write_str("kind"),
+            What::Payload => f.write_str("payload"),
+            What::Count => f.write_str("number of candidates"),
+            What::Switch => f.write_str("switch"),
+            What::Place(at) => write!(f, "place of the lent list {at}"),
+            What::Slot(at) => write!(f, "slot of place {at}"),
+        }
     }
 }
 
-fn difference_at(what: What, at: usize, listed: u64, here: u64) -> Difference {
-    Difference {
-        what: what,
-        at: at,
-        listed: listed,
-        here: here,
-    }
+impl Compared for What {
+    const ONE: &'static str = "in the list";
+
+    const OTHER: &'static str = "here       ";
 }
 
-pub fn answer_and_list(
-    words: &[u64; WORDS],
+// The first difference there is. `slots` are what the lines so far give.
+pub fn in_call(
+    line: &Line,
+    slots: &[u64; SPIS],
     answer: Answer,
     switch: bool,
     list: &[u32; PLACES],
-) -> Difference {
-    let first = compare_answer(line::seen_of(words), answer, bit(switch));
-    first.or(compare_list(answer.count, list, words))
+    table: &[Slot; SPIS],
+) -> Option<Apart<What>> {
+    in_answer(line, answer, switch)
+        .or(in_list(line.candidates, list))
+        .or(in_table(slots, table))
 }
 
-fn compare_answer(seen: Seen, answer: Answer, switch: u64) -> Difference {
-    let kind = difference_at(What::Kind, 0, seen.kind, answer.kind);
-    let payload = difference_at(What::Payload, 0, seen.payload, answer.payload);
-    let count = difference_at(What::Count, 0, seen.candidates, answer.count as u64);
-    let switch = difference_at(What::Switch, 0, seen.switch, switch);
-    kind.or(payload).or(count).or(switch)
+fn in_answer(line: &Line, answer: Answer, switch: bool) -> Option<Apart<What>> {
+    let candidates = line.candidates.len() as u64;
+    Apart::between(What::Kind, line.kind, answer.kind)
+        .or(Apart::between(What::Payload, line.payload, answer.payload))
+        .or(Apart::between(What::Count, candidates, answer.count as u64))
+        .or(Apart::between(What::Switch, line.switch as u64, switch as u64))
 }
 
 // The first places hold the line's candidates, and the others are untouched.
-fn compare_list(count: usize, list: &[u32; PLACES], words: &[u64; WORDS]) -> Difference {
-    let mut i = 0;
-    while i < PLACES {
-        let listed = expected(words, count, i);
-        let here = wide_word(list[i]);
-        if listed != here {
-            return difference_at(What::Place, i, listed, here);
-        }
-        i += 1;
-    }
-    // No difference.
-    difference_at(What::Place, 0, 0, 0)
-}
-
-fn expected(words: &[u64; WORDS], count: usize, i: usize) -> u64 {
-    if i < count {
-        line::word(words, std::num::wrapping_add_usize(CANDIDATES, i))
-    } else {
-        UNTOUCHED as u64
-    }
+fn in_list(candidates: &[u64], list: &[u32; PLACES]) -> Option<Apart<What>> {
+    list.iter().enumerate().find_map(|(at, here)| {
+        let listed = candidates.get(at).copied().unwrap_or(UNTOUCHED as u64);
+        Apart::between(What::Place(at), listed, *here as u64)
+    })
 }
 
 // Every slot of the table, those past the last SPI too: they stay fresh.
-pub fn slots(table: [Slot; SPIS], slots: &[u64; SPIS]) -> Difference {
-    let mut i = 0;
-    while i < SPIS {
-        let slot = table[i];
-        let listed = slots[i];
-        let here = word_of(slot);
-        if listed != here {
-            return difference_at(What::Slot, i, listed, here);
-        }
-        i += 1;
-    }
-    // No difference.
-    difference_at(What::Slot, 0, 0, 0)
+fn in_table(slots: &[u64; SPIS], table: &[Slot; SPIS]) -> Option<Apart<What>> {
+    slots.iter().zip(table).enumerate().find_map(|(at, (listed, slot))| {
+        Apart::between(What::Slot(at), *listed, word_of(*slot))
+    })
 }

@@ -1,63 +1,45 @@
-// A line of a list, as words: the call, and what was seen of it.
-use harness_numbers::call::Call;
+// A line of a list, by its words: the call, and what was seen of it.
+use harness_numbers::call;
+use harness_numbers::call::{Call, Family};
 
 // The most words of a line: ten, a candidate for each of 988 SPIs, and a place and a slot for each, fit.
 pub const WORDS: usize = 4096;
 
-// The word at which the candidates begin.
-pub const CANDIDATES: usize = 8;
-
-// What is seen of a call but for the candidates and the slots.
-#[derive(Clone, Copy)]
-pub struct Seen {
+#[derive(Clone, Copy, Debug, PartialEq, Eq)]
+pub struct Line<'a> {
+    pub call: Call,
+    // A number, which is held against an answer's.
     pub kind: u64,
     pub payload: u64,
-    pub candidates: u64,
-    pub switch: u64,
+    pub candidates: &'a [u64],
+    pub switch: bool,
+    // The slots that changed: a place and a slot each.
+    pub changes: &'a [[u64; 2]],
 }
 
-// The word at a place, 0 where there is no such place.
-pub fn word(words: &[u64; WORDS], at: usize) -> u64 {
-    if at < WORDS { words[at] } else { 0 }
-}
-
-// Where the word stands that is so many past the candidates: 0 the switch, 1 how many slots changed, 2 the first of these.
-pub fn past_candidates(words: &[u64; WORDS], more: usize) -> usize {
-    let first = std::num::wrapping_add_usize(CANDIDATES, words[7] as usize);
-    std::num::wrapping_add_usize(first, more)
-}
-
-pub fn call_of(words: &[u64; WORDS]) -> Call {
-    Call {
-        op: words[0],
-        a: words[1],
-        b: words[2],
-        c: words[3],
-        d: words[4],
+impl<'a> Line<'a> {
+    // None where the words are no line. It has ten, one more for a candidate, and two more for a changed slot.
+    pub fn of(words: &'a [u64]) -> Option<Self> {
+        let &[op, a, b, c, d, kind, payload, count, ref rest @ ..] = words else {
+            return None;
+        };
+        let (candidates, rest) = rest.split_at_checked(count as usize)?;
+        let &[switch, changed, ref rest @ ..] = rest else {
+            return None;
+        };
+        let (changes, odd) = rest.as_chunks();
+        let whole = odd.is_empty() && changes.len() as u64 == changed && switch <= 1;
+        whole.then_some(Line {
+            call: Call { op, a, b, c, d },
+            kind,
+            payload,
+            candidates,
+            switch: switch == 1,
+            changes,
+        })
     }
-}
 
-pub fn seen_of(words: &[u64; WORDS]) -> Seen {
-    Seen {
-        kind: words[5],
-        payload: words[6],
-        candidates: words[7],
-        switch: word(words, past_candidates(words, 0)),
+    pub fn family(&self) -> Family {
+        call::family_of(self.call.op, self.call.b)
     }
-}
-
-// Whether so many words are a line: ten, one more for a candidate, and two more for a changed slot.
-pub fn is_whole(words: &[u64; WORDS], count: usize) -> bool {
-    let length = count as u64;
-    let candidates = words[7];
-    if length < 10 {
-        return false;
-    }
-    if length - 10 < candidates {
-        return false;
-    }
-    let rest = length - 10 - candidates;
-    let changes = word(words, past_candidates(words, 1));
-    let switch = word(words, past_candidates(words, 0));
-    (changes == rest / 2) & (rest % 2 == 0) & (switch <= 1)
 }

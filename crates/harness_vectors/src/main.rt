@@ -5,77 +5,67 @@
 mod arguments;
 mod board;
 mod compare;
+mod counts;
 mod lexer;
 mod line;
-mod report;
 mod run;
-mod table;
+mod stop;
 
-use crate::compare::UNTOUCHED;
-use crate::lexer::BUFFER;
-use crate::line::WORDS;
+use crate::counts::Counts;
+use crate::lexer::Lexer;
+use crate::line::Line;
 use crate::run::Run;
+use crate::stop::{In, Stop};
+use distributor::distributor::DistributorState;
 use harness_calls::create;
-use harness_face::apart::PLACES;
-use harness_face::beside::IMAGE;
-use image::kept::FRESH;
-use place::place::SPIS;
+use harness_calls::run::Ran;
+use harness_numbers::guest::{PLACES, UNTOUCHED};
 use std::io;
-use std::io::Read;
+use std::io::{BufReader, Read};
+
+// How many bytes of standard input are read at a time.
+const BUFFER: usize = 65536;
 
 fn main(rt: HostRuntime) -> io::Result<()> {
-    let mut input = rt.stdin();
-    let mut buffer = [0u8; BUFFER];
-    let mut words = [0u64; WORDS];
-    let mut slots = [FRESH; SPIS];
-    let mut image = [0u8; IMAGE];
-    let run = Run::new(board::lines(&mut buffer));
-    replay(
-        &rt,
-        &mut input,
-        run,
-        &mut buffer,
-        &mut words,
-        &mut slots,
-        &mut image,
-    )
+    let board = board::LIST.concat(rt.alloc())?;
+    match replay(board.as_slice()) {
+        Ok(Counts { calls, faced, .. }) => {
+            println!(rt;
+                "the board's twelve: calls compared: {calls}, through the face as well: {faced}"
+            )?
+        }
+        Err(stop) => return println!(rt; "{}", In("the board's ", stop)),
+    }
+    match replay(BufReader::with_capacity(rt.alloc(), BUFFER, rt.stdin())?) {
+        Ok(counts) => println!(rt; "{counts}\nno difference"),
+        Err(stop) => println!(rt; "{}", In("", stop)),
+    }
 }
 
-// Runs the calls, line by line. A function that has the Distributor in hand takes the prover long, so only this loop hands it on.
-//
-// A proved loop has to end, and nothing says that the input does. So the loop counts its turns down, from a number that no
-// run uses up.
-fn replay(
-    rt: &impl Print,
-    input: &mut impl Read,
-    beginning: Run,
-    buffer: &mut [u8; BUFFER],
-    words: &mut [u64; WORDS],
-    slots: &mut [u64; SPIS],
-    image: &mut [u8; IMAGE],
-) -> io::Result<()> {
-    let mut run = beginning;
+// Runs the calls of a list, line by line.
+fn replay(list: impl Read + Drop) -> Result<Counts, Stop> {
     let mut d = create::nothing();
-    let mut turns = u64::MAX;
-    while turns > 0 && run.reading {
-        run = run.read_on(rt, input, buffer, words, slots)?;
-        if run.called {
-            let mut list = [UNTOUCHED; PLACES];
-            let ran = harness_calls::run::run(d, line::call_of(words), &mut list);
-            d = ran.state;
-            let table = compare::slots(d.slots(), slots);
-            run = run.compared(
-                rt,
-                words,
-                ran.answer,
-                d.is_switched_on(),
-                &list,
-                table,
-                slots,
-                image,
-            )?;
+    let mut run = Run::new();
+    let mut lexer = Lexer::new();
+    for byte in list.bytes() {
+        let byte = byte.map_err(|_| Stop::Unread)?;
+        if lexer.take_in(byte).ok_or(Stop::Bad(run.line_number()))? {
+            d = step(d, &mut run, lexer.words())?;
+            lexer.clear();
         }
-        turns -= 1;
     }
-    Ok(())
+    if lexer.is_within() {
+        return Err(Stop::Bad(run.line_number()));
+    }
+    run.ended()
+}
+
+// Runs the call of a line, and holds what is seen of it against the line.
+fn step(d: DistributorState, run: &mut Run, words: &[u64]) -> Result<DistributorState, Stop> {
+    let line = Line::of(words).ok_or(Stop::Bad(run.line_number()))?;
+    run.take_over(&line)?;
+    let mut list = [UNTOUCHED; PLACES];
+    let Ran { state, answer } = harness_calls::run::run(d, line.call, &mut list);
+    run.compare(&line, answer, state.is_switched_on(), &list, &state.slots())?;
+    Ok(state)
 }

@@ -1,4 +1,5 @@
-// The host's public calls on one SPI, each a named change. An SPI that the table has not is refused 1.
+// The host's public calls on one SPI, each a named change, as the paper asks; `change` is the one that takes any. An
+// SPI that the table has not is refused 1.
 ghost use Rattle.operation.specs.declared.operation.Operation.TheVariants.{SetEnabled, SetPending, SetActive, SetState, ClearDeliveryState, MarkInflight, CancelInflight, FinishInflight, DeactivateInflight, SetPriority, SetTrigger, SetRoute, ClearRoute, SetLevel, Pulse, Complete};
 ghost use Rattle.changes.specs.declared.change.Change.TheVariants.{Claim, ClaimTo, Release, SetCpuTargetMask, SynchronizeInflight, Operate};
 ghost use Rattle.model.specs.Calls.{change};

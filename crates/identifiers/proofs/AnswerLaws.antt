@@ -1,16 +1,15 @@
 -- An answer in the paper's terms says all that the code's answer says: no two answers are told alike, so that a promise about
 -- what is told leaves no second answer.
-use Rattle.std.specs.Prelude.{ℕ, ◌≡◌, refl, cond, eqb, get_or}
+use Rattle.std.specs.Prelude.{ℕ, ◌≡◌, refl, cond, eqb, List, get_or, Result, Ok, Err}
 use Rattle.std.proofs.Common.{sym, ap, ◌∙◌}
 use Rattle.identifiers.specs.declared.error.Refusal.{Refusal}
 use Rattle.identifiers.specs.declared.error.Refusal.TheVariants.{InvalidIntId, ResourceConflict, InvalidAccess, InvalidWidth, ShortList}
-use Rattle.identifiers.specs.declared.types.SgiIdAnswer.{SgiIdAnswer}
-use Rattle.identifiers.specs.declared.types.PpiIdAnswer.{PpiIdAnswer}
-use Rattle.identifiers.specs.declared.types.SpiIdAnswer.{SpiIdAnswer}
-use Rattle.identifiers.specs.declared.types.LpiIdAnswer.{LpiIdAnswer}
 use Rattle.identifiers.specs.declared.types.IntId.{IntId}
-use Rattle.identifiers.specs.declared.types.IntIdAnswer.{IntIdAnswer}
-use Rattle.identifiers.specs.Answer.{Answer, done, refused, kind_of, raw_of, told_refusal, told_sgi, told_ppi, told_spi, told_lpi, told_int_id}
+use Rattle.identifiers.specs.Answer.{Answer, done, refused, kind_of, raw_of, told, told_refusal, told_sgi, told_ppi, told_spi, told_lpi, told_int_id}
+use Rattle.identifiers.specs.declared.types.SgiId.{SgiId}
+use Rattle.identifiers.specs.declared.types.PpiId.{PpiId}
+use Rattle.identifiers.specs.declared.types.SpiId.{SpiId}
+use Rattle.identifiers.specs.declared.types.LpiId.{LpiId}
 
 -- the refusal that is told by a number and what it carries
 refusal_of : Answer → Refusal
@@ -30,29 +29,24 @@ refusal_of-told ShortList = refl
 pub told-refusal : (f g : Refusal) → told_refusal f ≡ told_refusal g → f ≡ g
 told-refusal f g e = sym (refusal_of-told f) ∙ ap refusal_of e ∙ refusal_of-told g
 
-pub told-sgi : (a b : SgiIdAnswer) → told_sgi a ≡ told_sgi b → a ≡ b
-told-sgi (SgiIdAnswer.Done i) (SgiIdAnswer.Done j) e = let p : i.0 ≡ j.0 = cc in ap (λ (n : ℕ). SgiIdAnswer.Done (record { 0 = n })) p
-told-sgi (SgiIdAnswer.Done i) (SgiIdAnswer.Refused g) e = cc
-told-sgi (SgiIdAnswer.Refused f) (SgiIdAnswer.Done j) e = cc
-told-sgi (SgiIdAnswer.Refused f) (SgiIdAnswer.Refused g) e = ap SgiIdAnswer.Refused (told-refusal f g e)
+-- answers are told apart where what is handed out is
+pub told_once : {A : Type 0} (values : A → List ℕ) → ((x y : A) → values x ≡ values y → x ≡ y) → (a b : Result A Refusal) → told values a ≡ told values b → a ≡ b
+told_once values same (Ok x) (Ok y) e = let p : values x ≡ values y = cc in ap Ok (same x y p)
+told_once values same (Ok x) (Err g) e = cc
+told_once values same (Err f) (Ok y) e = cc
+told_once values same (Err f) (Err g) e = ap Err (told-refusal f g e)
 
-pub told_ppi_lem : (a b : PpiIdAnswer) → told_ppi a ≡ told_ppi b → a ≡ b
-told_ppi_lem (PpiIdAnswer.Done i) (PpiIdAnswer.Done j) e = let p : i.0 ≡ j.0 = cc in ap (λ (n : ℕ). PpiIdAnswer.Done (record { 0 = n })) p
-told_ppi_lem (PpiIdAnswer.Done i) (PpiIdAnswer.Refused g) e = cc
-told_ppi_lem (PpiIdAnswer.Refused f) (PpiIdAnswer.Done j) e = cc
-told_ppi_lem (PpiIdAnswer.Refused f) (PpiIdAnswer.Refused g) e = ap PpiIdAnswer.Refused (told-refusal f g e)
+pub told-sgi : (a b : Result SgiId Refusal) → told_sgi a ≡ told_sgi b → a ≡ b
+told-sgi = told_once _ (λ i j e. let p : i.0 ≡ j.0 = cc in ap (λ (n : ℕ). record { 0 = n }) p)
 
-pub told-spi : (a b : SpiIdAnswer) → told_spi a ≡ told_spi b → a ≡ b
-told-spi (SpiIdAnswer.Done i) (SpiIdAnswer.Done j) e = let p : i.0 ≡ j.0 = cc in ap (λ (n : ℕ). SpiIdAnswer.Done (record { 0 = n })) p
-told-spi (SpiIdAnswer.Done i) (SpiIdAnswer.Refused g) e = cc
-told-spi (SpiIdAnswer.Refused f) (SpiIdAnswer.Done j) e = cc
-told-spi (SpiIdAnswer.Refused f) (SpiIdAnswer.Refused g) e = ap SpiIdAnswer.Refused (told-refusal f g e)
+pub told_ppi_lem : (a b : Result PpiId Refusal) → told_ppi a ≡ told_ppi b → a ≡ b
+told_ppi_lem = told_once _ (λ i j e. let p : i.0 ≡ j.0 = cc in ap (λ (n : ℕ). record { 0 = n }) p)
 
-pub told_lpi_lem : (a b : LpiIdAnswer) → told_lpi a ≡ told_lpi b → a ≡ b
-told_lpi_lem (LpiIdAnswer.Done i) (LpiIdAnswer.Done j) e = let p : i.0 ≡ j.0 = cc in ap (λ (n : ℕ). LpiIdAnswer.Done (record { 0 = n })) p
-told_lpi_lem (LpiIdAnswer.Done i) (LpiIdAnswer.Refused g) e = cc
-told_lpi_lem (LpiIdAnswer.Refused f) (LpiIdAnswer.Done j) e = cc
-told_lpi_lem (LpiIdAnswer.Refused f) (LpiIdAnswer.Refused g) e = ap LpiIdAnswer.Refused (told-refusal f g e)
+pub told-spi : (a b : Result SpiId Refusal) → told_spi a ≡ told_spi b → a ≡ b
+told-spi = told_once _ (λ i j e. let p : i.0 ≡ j.0 = cc in ap (λ (n : ℕ). record { 0 = n }) p)
+
+pub told_lpi_lem : (a b : Result LpiId Refusal) → told_lpi a ≡ told_lpi b → a ≡ b
+told_lpi_lem = told_once _ (λ i j e. let p : i.0 ≡ j.0 = cc in ap (λ (n : ℕ). record { 0 = n }) p)
 
 -- an INTID of any kind is its kind and its number
 int_id_of : ℕ → ℕ → IntId
@@ -67,8 +61,5 @@ int_id_of_told (IntId.Ppi i) = refl
 int_id_of_told (IntId.Spi i) = refl
 int_id_of_told (IntId.Lpi i) = refl
 
-pub told_intid : (a b : IntIdAnswer) → told_int_id a ≡ told_int_id b → a ≡ b
-told_intid (IntIdAnswer.Done i) (IntIdAnswer.Done j) e = cc (int_id_of_told i, int_id_of_told j)
-told_intid (IntIdAnswer.Done i) (IntIdAnswer.Refused g) e = cc
-told_intid (IntIdAnswer.Refused f) (IntIdAnswer.Done j) e = cc
-told_intid (IntIdAnswer.Refused f) (IntIdAnswer.Refused g) e = ap IntIdAnswer.Refused (told-refusal f g e)
+pub told_intid : (a b : Result IntId Refusal) → told_int_id a ≡ told_int_id b → a ≡ b
+told_intid = told_once _ (λ i j e. let p : kind_of i ≡ kind_of j = cc in let q : raw_of i ≡ raw_of j = cc in cc (int_id_of_told i, int_id_of_told j))

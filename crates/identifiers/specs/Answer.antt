@@ -1,13 +1,13 @@
 -- Answers in the paper's terms: the number of each refusal, what it carries, and what the makers of identifiers answer.
-use Rattle.std.specs.Prelude.{ℕ, Bool, true, false, ◌&&◌, cond, List, [], ◌∷◌, leb, ltb}
+use Rattle.std.specs.Prelude.{ℕ, Bool, true, false, ◌&&◌, cond, List, [], ◌∷◌, ◌++◌, leb, ltb, Result, Ok, Err, codes}
+use Rattle.std.specs.Fmt.{decimal}
 use Rattle.identifiers.specs.declared.error.Refusal.{Refusal}
 use Rattle.identifiers.specs.declared.error.Refusal.TheVariants.{InvalidIntId, ResourceConflict, InvalidAccess, InvalidWidth, ShortList}
-use Rattle.identifiers.specs.declared.types.SgiIdAnswer.{SgiIdAnswer}
-use Rattle.identifiers.specs.declared.types.PpiIdAnswer.{PpiIdAnswer}
-use Rattle.identifiers.specs.declared.types.SpiIdAnswer.{SpiIdAnswer}
-use Rattle.identifiers.specs.declared.types.LpiIdAnswer.{LpiIdAnswer}
 use Rattle.identifiers.specs.declared.types.IntId.{IntId}
-use Rattle.identifiers.specs.declared.types.IntIdAnswer.{IntIdAnswer}
+use Rattle.identifiers.specs.declared.types.SgiId.{SgiId}
+use Rattle.identifiers.specs.declared.types.PpiId.{PpiId}
+use Rattle.identifiers.specs.declared.types.SpiId.{SpiId}
+use Rattle.identifiers.specs.declared.types.LpiId.{LpiId}
 
 -- a call is done, with the values that it answers; or it is refused, with the refusal's number and what the refusal carries
 pub data Answer : Type 0 where
@@ -29,6 +29,14 @@ carried_by InvalidAccess = []
 carried_by InvalidWidth = []
 carried_by ShortList = []
 
+-- a refusal as text: its number, and in parentheses what it carries
+abbrev pub carried_text : List ℕ → List ℕ
+carried_text [] = []
+carried_text (n ∷ ns) = codes " (" ++ (decimal n ++ codes ")")
+
+abbrev pub refusal_text : Refusal → List ℕ
+refusal_text f = decimal (number_of f) ++ carried_text (carried_by f)
+
 abbrev pub told_refusal : Refusal → Answer
 told_refusal f = refused (number_of f) (carried_by f)
 
@@ -37,22 +45,23 @@ abbrev pub unless : List ℕ → Answer → Answer
 unless [] a = a
 unless (i ∷ is) a = refused 1 (i ∷ [])
 
+-- what a call answered: done, with the values of what it hands out, or refused
+abbrev pub told : {A : Type 0} → (A → List ℕ) → Result A Refusal → Answer
+told values (Ok x) = done (values x)
+told values (Err f) = told_refusal f
+
 -- what each maker's answer says
-abbrev pub told_sgi : SgiIdAnswer → Answer
-told_sgi (SgiIdAnswer.Done i) = done (i.0 ∷ [])
-told_sgi (SgiIdAnswer.Refused f) = told_refusal f
+abbrev pub told_sgi : Result SgiId Refusal → Answer
+told_sgi = told (λ i. i.0 ∷ [])
 
-abbrev pub told_ppi : PpiIdAnswer → Answer
-told_ppi (PpiIdAnswer.Done i) = done (i.0 ∷ [])
-told_ppi (PpiIdAnswer.Refused f) = told_refusal f
+abbrev pub told_ppi : Result PpiId Refusal → Answer
+told_ppi = told (λ i. i.0 ∷ [])
 
-abbrev pub told_spi : SpiIdAnswer → Answer
-told_spi (SpiIdAnswer.Done i) = done (i.0 ∷ [])
-told_spi (SpiIdAnswer.Refused f) = told_refusal f
+abbrev pub told_spi : Result SpiId Refusal → Answer
+told_spi = told (λ i. i.0 ∷ [])
 
-abbrev pub told_lpi : LpiIdAnswer → Answer
-told_lpi (LpiIdAnswer.Done i) = done (i.0 ∷ [])
-told_lpi (LpiIdAnswer.Refused f) = told_refusal f
+abbrev pub told_lpi : Result LpiId Refusal → Answer
+told_lpi = told (λ i. i.0 ∷ [])
 
 -- an INTID's kind as a number: 0 SGI, 1 PPI, 2 SPI, 3 LPI
 abbrev pub kind_of : IntId → ℕ
@@ -73,9 +82,8 @@ sgi (IntId.Ppi i) = false
 sgi (IntId.Spi i) = false
 sgi (IntId.Lpi i) = false
 
-abbrev pub told_int_id : IntIdAnswer → Answer
-told_int_id (IntIdAnswer.Done i) = done (kind_of i ∷ raw_of i ∷ [])
-told_int_id (IntIdAnswer.Refused f) = told_refusal f
+abbrev pub told_int_id : Result IntId Refusal → Answer
+told_int_id = told (λ i. kind_of i ∷ raw_of i ∷ [])
 
 -- from lo up to below end
 abbrev pub within : ℕ → ℕ → ℕ → Bool

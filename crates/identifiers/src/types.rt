@@ -1,4 +1,5 @@
-// Bounded identifiers. Only a maker makes one, so none is out of its range.
+// Bounded identifiers. Only a maker makes one, so none is out of its range. The paper asks for a type and one checked
+// maker a kind, so their makers stay apart.
 ghost use Rattle.std.specs.Prelude.{◌≡◌, ◌+◌, min};
 ghost use Rattle.identifiers.specs.Answer.{id_answer, int_id_answer, told_sgi, told_ppi, told_spi, told_lpi, told_int_id, raw_of, sgi};
 
@@ -10,53 +11,29 @@ pub const LPI_INTID_BASE: u32 = 8192;
 pub const LPI_INTID_MAX: u32 = 0x00ff_ffff;
 
 // A software-generated interrupt, INTIDs 0 to 15.
-#[derive(Clone, Copy)]
+#[derive(Clone, Copy, Debug, PartialEq, Eq, PartialOrd, Ord)]
 pub struct SgiId(u8);
 
 // A private peripheral interrupt, INTIDs 16 to 31.
-#[derive(Clone, Copy)]
+#[derive(Clone, Copy, Debug, PartialEq, Eq, PartialOrd, Ord)]
 pub struct PpiId(u8);
 
 // A shared peripheral interrupt, INTIDs 32 to 1019.
-#[derive(Clone, Copy)]
+#[derive(Clone, Copy, Debug, PartialEq, Eq, PartialOrd, Ord)]
 pub struct SpiId(u32);
 
 // A locality-specific peripheral interrupt, INTIDs 8192 to 0xffffff.
-#[derive(Clone, Copy)]
+#[derive(Clone, Copy, Debug, PartialEq, Eq, PartialOrd, Ord)]
 pub struct LpiId(u32);
 
-#[derive(Clone, Copy)]
-pub enum SgiIdAnswer {
-    Done(SgiId),
-    Refused(Refusal),
-}
-
-#[derive(Clone, Copy)]
-pub enum PpiIdAnswer {
-    Done(PpiId),
-    Refused(Refusal),
-}
-
-#[derive(Clone, Copy)]
-pub enum SpiIdAnswer {
-    Done(SpiId),
-    Refused(Refusal),
-}
-
-#[derive(Clone, Copy)]
-pub enum LpiIdAnswer {
-    Done(LpiId),
-    Refused(Refusal),
-}
-
 impl SgiId {
-    pub fn new(raw: u8) -> SgiIdAnswer
+    pub fn new(raw: u8) -> Result<Self, Refusal>
         ensures { told_sgi result ≡ id_answer 0 16 raw }
     {
         if raw < 16 {
-            SgiIdAnswer::Done(SgiId(raw))
+            Ok(SgiId(raw))
         } else {
-            SgiIdAnswer::Refused(Refusal::InvalidIntId(raw as u32))
+            Err(Refusal::InvalidIntId(raw as u32))
         }
     }
 
@@ -68,13 +45,13 @@ impl SgiId {
 }
 
 impl PpiId {
-    pub fn new(raw: u8) -> PpiIdAnswer
+    pub fn new(raw: u8) -> Result<Self, Refusal>
         ensures { told_ppi result ≡ id_answer 16 32 raw }
     {
         if (16 <= raw) & (raw < 32) {
-            PpiIdAnswer::Done(PpiId(raw))
+            Ok(PpiId(raw))
         } else {
-            PpiIdAnswer::Refused(Refusal::InvalidIntId(raw as u32))
+            Err(Refusal::InvalidIntId(raw as u32))
         }
     }
 
@@ -97,13 +74,13 @@ impl SpiId {
         }
     }
 
-    pub fn new(raw: u32) -> SpiIdAnswer
+    pub fn new(raw: u32) -> Result<Self, Refusal>
         ensures { told_spi result ≡ id_answer 32 1020 raw }
     {
         if (32 <= raw) & (raw < 1020) {
-            SpiIdAnswer::Done(SpiId(raw))
+            Ok(SpiId(raw))
         } else {
-            SpiIdAnswer::Refused(Refusal::InvalidIntId(raw))
+            Err(Refusal::InvalidIntId(raw))
         }
     }
 
@@ -115,13 +92,13 @@ impl SpiId {
 }
 
 impl LpiId {
-    pub fn new(raw: u32) -> LpiIdAnswer
+    pub fn new(raw: u32) -> Result<Self, Refusal>
         ensures { told_lpi result ≡ id_answer 8192 0x1000000 raw }
     {
         if (LPI_INTID_BASE <= raw) & (raw <= LPI_INTID_MAX) {
-            LpiIdAnswer::Done(LpiId(raw))
+            Ok(LpiId(raw))
         } else {
-            LpiIdAnswer::Refused(Refusal::InvalidIntId(raw))
+            Err(Refusal::InvalidIntId(raw))
         }
     }
 
@@ -133,7 +110,7 @@ impl LpiId {
 }
 
 // An INTID of any kind that is not reserved.
-#[derive(Clone, Copy)]
+#[derive(Clone, Copy, Debug, PartialEq, Eq, PartialOrd, Ord)]
 pub enum IntId {
     Sgi(SgiId),
     Ppi(PpiId),
@@ -141,23 +118,17 @@ pub enum IntId {
     Lpi(LpiId),
 }
 
-#[derive(Clone, Copy)]
-pub enum IntIdAnswer {
-    Done(IntId),
-    Refused(Refusal),
-}
-
 impl IntId {
     // INTIDs 1020 to 8191 and those past the last LPI are reserved.
-    pub fn new(raw: u32) -> IntIdAnswer
+    pub fn new(raw: u32) -> Result<Self, Refusal>
         ensures { told_int_id result ≡ int_id_answer raw }
     {
         match raw {
-            0..=15 => IntIdAnswer::Done(IntId::Sgi(SgiId(raw as u8))),
-            16..=31 => IntIdAnswer::Done(IntId::Ppi(PpiId(raw as u8))),
-            32..=1019 => IntIdAnswer::Done(IntId::Spi(SpiId(raw))),
-            LPI_INTID_BASE..=LPI_INTID_MAX => IntIdAnswer::Done(IntId::Lpi(LpiId(raw))),
-            _ => IntIdAnswer::Refused(Refusal::InvalidIntId(raw)),
+            0..=15 => Ok(IntId::Sgi(SgiId(raw as u8))),
+            16..=31 => Ok(IntId::Ppi(PpiId(raw as u8))),
+            32..=1019 => Ok(IntId::Spi(SpiId(raw))),
+            LPI_INTID_BASE..=LPI_INTID_MAX => Ok(IntId::Lpi(LpiId(raw))),
+            _ => Err(Refusal::InvalidIntId(raw)),
         }
     }
 
@@ -175,11 +146,6 @@ impl IntId {
     pub fn is_sgi(self) -> bool
         ensures { result ≡ sgi self }
     {
-        match self {
-            IntId::Sgi(_) => true,
-            IntId::Ppi(_) => false,
-            IntId::Spi(_) => false,
-            IntId::Lpi(_) => false,
-        }
+        matches!(self, IntId::Sgi(_))
     }
 }

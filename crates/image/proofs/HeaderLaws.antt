@@ -15,20 +15,20 @@ use Rattle.place.specs.Table.{capacity}
 use Rattle.controller.specs.declared.controller.GicV3SpiOwnership.{GicV3SpiOwnership}
 use Rattle.controller.specs.declared.controller.GicV3SpiOwnership.TheVariants.{AllGuestOwned, Explicit}
 use Rattle.controller.specs.declared.controller.ControllerConfig.{ControllerConfig}
-use Rattle.controller.specs.Modes.{explicit}
+use Rattle.controller.specs.Modes.{explicit, ownership_of}
 use Rattle.image.specs.Bytes.{byte_of, bit_of, bytes_of, number_at, flat, Bytes}
 use Rattle.image.specs.ByteLaws.{bytes_listed, bytes_split, number_beside, number_fits}
 use Rattle.image.specs.BitLaws.{flagged, reads_as, read_bit}
-use Rattle.image.specs.Header.{good_header, ownership_in, header_in, header_of, good_image, first_word, header_words}
+use Rattle.image.specs.Header.{good_header, header_in, header_of, good_image, first_word, header_words}
 use Rattle.image.specs.HeaderLaws.{Fitting}
 
 -- ---- the numbers of a header
 
-owner_back : (o : GicV3SpiOwnership) → ownership_in (explicit o) ≡ o
+owner_back : (o : GicV3SpiOwnership) → ownership_of (explicit o) ≡ o
 owner_back AllGuestOwned = refl
 owner_back Explicit = refl
 
-pub owner-set : (b : Bool) → explicit (ownership_in b) ≡ b
+pub owner-set : (b : Bool) → explicit (ownership_of b) ≡ b
 owner-set true = refl
 owner-set false = refl
 
@@ -76,7 +76,7 @@ module _ (c : ControllerConfig) (on : Bool) (n : ℕ) (fit : Fitting c n) where
   pub header_of_words : header_in first c.lpi_limit c.distributor_size ≡ record { config = c; enabled = on; spi_count = n }
   unfolding header_in
   header_of_words =
-      let explicitly : ownership_in (eqb (byte_of 1 first) 1) ≡ c.spi_ownership = ap ownership_in (reads_as (byte_of 1 first) owner owner_byte) ∙ owner_back c.spi_ownership in
+      let explicitly : ownership_of (eqb (byte_of 1 first) 1) ≡ c.spi_ownership = ap ownership_of (reads_as (byte_of 1 first) owner owner_byte) ∙ owner_back c.spi_ownership in
       let lpis : bit_of 2 0 first ≡ c.exposes_guest_lpis = reads_as (first / 2 ^ 16 % 2) _ (omega (arith, laid)) in
       let its : bit_of 2 1 first ≡ c.its = reads_as (first / 2 ^ 17 % 2) _ (omega (arith, laid)) in
       let level3 : bit_of 2 2 first ≡ c.affinity_level_3 = reads_as (first / 2 ^ 18 % 2) _ (omega (arith, laid)) in

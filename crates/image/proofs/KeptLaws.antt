@@ -1,6 +1,6 @@
 -- Laws of an SPI as it is kept: its bytes mean it, good bytes are those of what they mean, and every SPI that calls can reach has good
 -- bytes.
-use Rattle.std.specs.Prelude.{ℕ, ◌+◌, ◌*◌, ◌/◌, ◌%◌, ◌^◌, ◌<◌, refl, Bool, not, ◌&&◌, ◌||◌, List, [], ◌∷◌, ◌++◌}
+use Rattle.std.specs.Prelude.{ℕ, ◌+◌, ◌*◌, ◌/◌, ◌%◌, ◌^◌, ◌<◌, refl, Bool, not, ◌&&◌, ◌||◌, List, [], ◌∷◌, ◌++◌, Option, Some, None, is_some, unwrap_or, IfSome}
 use Rattle.std.proofs.Math.Path.{◌≡◌, ap}
 use Rattle.std.proofs.Common.{sym, ◌∙◌, true≢false, div-one, arith, lit<}
 use Rattle.std.proofs.Math.Bool.{true, false, cond}
@@ -20,9 +20,7 @@ use Rattle.attributes.specs.States.{level_of}
 use Rattle.identifiers.specs.declared.types.IntId.{IntId}
 use Rattle.life.specs.declared.life.Life.{Life}
 use Rattle.life.specs.Life.{flags, redelivery, line}
-use Rattle.interrupt.specs.declared.interrupt.Route.{Route}
-use Rattle.interrupt.specs.declared.interrupt.TargetMask.{TargetMask}
-use Rattle.interrupt.specs.Records.{fresh, route_in, mask_in, route_set, route_held, mask_set, mask_held, restored}
+use Rattle.interrupt.specs.Records.{fresh, route_in, mask_in, restored}
 use Rattle.operation.specs.Laws.{Settings, settings_of, record_path}
 use Rattle.operation.specs.Tidy.{Tidy}
 use Rattle.bank.specs.declared.bank.Bank.{Bank}
@@ -33,7 +31,7 @@ use Rattle.changes.specs.Changes.{happens, ownership_after, record_after}
 use Rattle.slot.specs.declared.slot.Slot.{Slot}
 use Rattle.slot.specs.Effects.{written}
 use Rattle.slot.specs.Slots.{fresh_spi, field_written, changed}
-use Rattle.slot.specs.SettingsLaws.{TypedChange, zero_bytes, Stays}
+use Rattle.slot.specs.SettingsLaws.{TypedChange, Stays}
 use Rattle.slot.proofs.SettingsLaws.{field_keeps, change_keeps}
 use Rattle.spi.specs.QuestionLaws.{record_intid, effect_intid}
 use Rattle.image.specs.Bytes.{byte_of, bytes_of}
@@ -41,7 +39,7 @@ use Rattle.image.specs.ByteLaws.{bytes_listed}
 use Rattle.image.specs.BitLaws.{flagged, flag_at, flag_back, past_flags, flags_fit, flags-apart, flags_of}
 use Rattle.image.specs.Kept.{claimed_in, fixed_in, routed_in, masked_in, slot_in, good_word, life_word, edge_bit, route_word, mask_word, route_in_word, mask_in_word, word_of}
 use Rattle.image.specs.Meaning.{meant}
-use Rattle.image.specs.KeptLaws.{Held, first_flags, second_flags}
+use Rattle.image.specs.KeptLaws.{Held, first_flags, second_flags, mask_kept, route_kept}
 
 -- six flags are under 2 ^ 6
 pub life_fits : (f : Life) → life_word f < 64
@@ -56,72 +54,66 @@ marks s = first_flags s ++ second_flags s
 abbrev levels : GicAffinity → ℕ
 levels a = a.aff0 + 2 ^ 8 * a.aff1 + 2 ^ 16 * a.aff2 + 2 ^ 24 * a.aff3
 
+abbrev no_levels : GicAffinity
+no_levels = affinity 0 0 0 0
+
 -- five spare bits, the priority, the target mask and the affinity
 abbrev values : Slot → ℕ
-values s = 2 ^ 5 * (s.interrupt.priority.0 + 2 ^ 8 * (s.interrupt.cpu_target_mask + 2 ^ 8 * levels s.interrupt.route))
+values s = 2 ^ 5 * (s.interrupt.priority.0 + 2 ^ 8 * (mask_kept s + 2 ^ 8 * levels (route_kept s)))
 
 edge_laid : (t : TriggerMode) → edge_bit t ≡ bool_byte (not (level_of t))
 edge_laid Edge = refl
 edge_laid Level = refl
 
-route_laid : (b : Bool) (a : GicAffinity) → (b ≡ false → a ≡ affinity 0 0 0 0) → route_word (cond b (Route.To a) Route.Unset) ≡ 2 ^ 9 * bool_byte b + 2 ^ 32 * levels a
-route_laid true a z = omega arith
-route_laid false a z = rw (z refl)
+route_laid : (r : Option GicAffinity) → route_word r ≡ 2 ^ 9 * bool_byte (is_some r) + 2 ^ 32 * levels (unwrap_or r no_levels)
+route_laid (Some a) = omega arith
+route_laid None = refl
 
-mask_laid : (b : Bool) (m : ℕ) → (b ≡ false → m ≡ 0) → mask_word (cond b (TargetMask.Cores m) TargetMask.Unset) ≡ 2 ^ 10 * bool_byte b + 2 ^ 24 * m
-mask_laid true m z = omega arith
-mask_laid false m z = rw (z refl)
+mask_laid : (m : Option ℕ) → mask_word m ≡ 2 ^ 10 * bool_byte (is_some m) + 2 ^ 24 * unwrap_or m 0
+mask_laid (Some m) = omega arith
+mask_laid None = refl
 
-word-laid : (s : Slot) → Tidy (settings_of s.interrupt) → word_of s ≡ flagged (marks s) (values s)
+word-laid : (s : Slot) → word_of s ≡ flagged (marks s) (values s)
 unfolding word_of route_in mask_in
-word-laid s t =
+word-laid s =
     let r = s.interrupt in
-    rw (mask_laid r.masked r.cpu_target_mask t.1, route_laid r.routed r.route t.0, edge_laid r.trigger) (omega arith)
+    rw (mask_laid r.cpu_target_mask, route_laid r.route, edge_laid r.trigger) (omega arith)
 
--- ---- a route and a target mask, present or not
+-- ---- a value that is present or not
 
--- whether one is present
-route_set_lem : (b : Bool) (a : GicAffinity) → route_set (cond b (Route.To a) Route.Unset) ≡ b
-route_set_lem true a = refl
-route_set_lem false a = refl
+module _ {A : Type 0} where
+  -- it is what is read: whether it is present, and its value, or another where it is absent
+  read_back : (o : Option A) (z : A) → cond (is_some o) (Some (unwrap_or o z)) None ≡ o
+  read_back (Some a) z = refl
+  read_back None z = refl
 
-mask_set_lem : (b : Bool) (m : ℕ) → mask_set (cond b (TargetMask.Cores m) TargetMask.Unset) ≡ b
-mask_set_lem true m = refl
-mask_set_lem false m = refl
+  -- what is read is present where the flag says so
+  is_there : (b : Bool) (a : A) → is_some (cond b (Some a) None) ≡ b
+  is_there true a = refl
+  is_there false a = refl
 
--- and its value, which is 0 where it is absent
-route_held_lem : (b : Bool) (a : GicAffinity) → (b ≡ false → a ≡ affinity 0 0 0 0) → route_held (cond b (Route.To a) Route.Unset) ≡ a
-route_held_lem true a z = refl
-route_held_lem false a z = sym (z refl)
+  -- and what holds of the value holds of it
+  if_there : (P : A → Type 0) (b : Bool) (a : A) → P a → IfSome (cond b (Some a) None) P
+  if_there P true a h = h
+  if_there P false a h = tt
 
-mask_held_lem : (b : Bool) (m : ℕ) → (b ≡ false → m ≡ 0) → mask_held (cond b (TargetMask.Cores m) TargetMask.Unset) ≡ m
-mask_held_lem true m z = refl
-mask_held_lem false m z = sym (z refl)
+  -- its number is that of the value, if it is 0 where it is absent
+  number_there : (f : A → ℕ) (z : A) (b : Bool) (a : A) → (b ≡ false → f a ≡ f z) → f (unwrap_or (cond b (Some a) None) z) ≡ f a
+  number_there f z true a h = refl
+  number_there f z false a h = sym (h refl)
 
-no_route : (b : Bool) (a : GicAffinity) → let r = cond b (Route.To a) Route.Unset in route_set r ≡ false → route_held r ≡ affinity 0 0 0 0
-no_route true a e = absurd (true≢false e)
-no_route false a e = refl
+  absent_zero : (f : A → ℕ) (z : A) (o : Option A) → f z ≡ 0 → (is_some o || eqb (f (unwrap_or o z)) 0) ≡ true
+  absent_zero f z (Some a) h = refl
+  absent_zero f z None h = eq-eqb (f z) 0 h
 
-no_mask : (b : Bool) (m : ℕ) → let r = cond b (TargetMask.Cores m) TargetMask.Unset in mask_set r ≡ false → mask_held r ≡ 0
-no_mask true m e = absurd (true≢false e)
-no_mask false m e = refl
-
--- four bytes, and a byte
-route_bytes : (b : Bool) (a : GicAffinity) → Bytes a → Bytes (route_held (cond b (Route.To a) Route.Unset))
-route_bytes true a h = h
-route_bytes false a h = zero_bytes
-
-mask_byte : (b : Bool) (m : ℕ) → m < 256 → mask_held (cond b (TargetMask.Cores m) TargetMask.Unset) < 256
-mask_byte true m h = h
-mask_byte false m h = omega arith
+  -- what holds of each value and of the other holds of what is kept
+  with_default : (P : A → Type 0) (z : A) (o : Option A) → P z → IfSome o P → P (unwrap_or o z)
+  with_default P z (Some a) h k = k
+  with_default P z None h k = h
 
 -- ---- the bytes of an SPI
 
--- a value that is 0 unless it is present; a flag that brings another with it
-zero_or : (b : Bool) (n : ℕ) → (b ≡ false → n ≡ 0) → (b || eqb n 0) ≡ true
-zero_or true n z = refl
-zero_or false n z = eq-eqb n 0 (z refl)
-
+-- a number that is 0 unless a flag is set; a flag that brings another with it
 or_zero : (b : Bool) (n : ℕ) → (b || eqb n 0) ≡ true → b ≡ false → n ≡ 0
 or_zero true n h e = absurd (true≢false e)
 or_zero false n h e = eqb-true n 0 h
@@ -154,7 +146,7 @@ next_byte w a b v x e h f g = omega arith
 
 module _ (raw : ℕ) (s : Slot) (h : Held raw s) where
   laid : word_of s ≡ flagged (marks s) (values s)
-  laid = word-laid s h.tidy
+  laid = word-laid s
 
   mark : (j : ℕ) → j < 11 → flag_at (word_of s) j ≡ get_or (marks s) j false
   mark j p = rw laid (flag_back (marks s) (values s) j p)
@@ -165,20 +157,26 @@ module _ (raw : ℕ) (s : Slot) (h : Held raw s) where
   priority_there : byte_of 2 (word_of s) ≡ s.interrupt.priority.0
   priority_there = omega (arith, above)
 
-  mask_there : byte_of 3 (word_of s) ≡ s.interrupt.cpu_target_mask
-  mask_there = omega (arith, above)
+  mask_fits : mask_kept s < 256
+  mask_fits = with_default (λ m. m < 256) 0 s.interrupt.cpu_target_mask (omega arith) h.mask
 
-  levels_there : word_of s / 2 ^ 32 ≡ levels s.interrupt.route
-  levels_there = omega (arith, above)
+  mask_there : byte_of 3 (word_of s) ≡ mask_kept s
+  mask_there = omega (arith, above, mask_fits)
 
-  route_there : bytes_in (word_of s) ≡ s.interrupt.route
+  levels_there : word_of s / 2 ^ 32 ≡ levels (route_kept s)
+  levels_there = omega (arith, above, mask_fits)
+
+  levels_fit : Bytes (route_kept s)
+  levels_fit = with_default Bytes no_levels s.interrupt.route (record { byte3 = omega arith; byte2 = omega arith; byte1 = omega arith; byte0 = omega arith }) h.route
+
+  route_there : bytes_in (word_of s) ≡ route_kept s
   route_there =
       let w = word_of s in
-      let a = s.interrupt.route in
-      let p3 : byte_of 7 w ≡ a.aff3 = omega (arith, levels_there) in
-      let p2 : byte_of 6 w ≡ a.aff2 = omega (arith, levels_there) in
-      let p1 : byte_of 5 w ≡ a.aff1 = omega (arith, levels_there) in
-      let p0 : byte_of 4 w ≡ a.aff0 = omega (arith, levels_there) in
+      let a = route_kept s in
+      let p3 : byte_of 7 w ≡ a.aff3 = omega (arith, levels_there, levels_fit) in
+      let p2 : byte_of 6 w ≡ a.aff2 = omega (arith, levels_there, levels_fit) in
+      let p1 : byte_of 5 w ≡ a.aff1 = omega (arith, levels_there, levels_fit) in
+      let p0 : byte_of 4 w ≡ a.aff0 = omega (arith, levels_there, levels_fit) in
       λ k. affinity (p3 k) (p2 k) (p1 k) (p0 k)
 
   -- the bytes of an SPI mean that SPI
@@ -189,13 +187,9 @@ module _ (raw : ℕ) (s : Slot) (h : Held raw s) where
       let bit : (j : ℕ) → j < 11 → flag_at (word_of s) j ≡ get_or (marks s) j false = mark in
       let life : ◌≡◌ {A = Life} _ r.life = λ k. flags (bit 0 (lit< tt) k) (bit 1 (lit< tt) k) (bit 2 (lit< tt) k) (bit 3 (lit< tt) k) (bit 4 (lit< tt) k) (bit 5 (lit< tt) k) in
       let trigger : _ ≡ r.trigger = ap (λ (b : Bool). cond b Edge Level) (bit 6 (lit< tt)) ∙ edge_back r.trigger in
-      let route : route_in_word (word_of s) ≡ cond r.routed (Route.To r.route) Route.Unset = λ k. cond (bit 9 (lit< tt) k) (Route.To (route_there k)) Route.Unset in
-      let mask : mask_in_word (word_of s) ≡ cond r.masked (TargetMask.Cores r.cpu_target_mask) TargetMask.Unset = λ k. cond (bit 10 (lit< tt) k) (TargetMask.Cores (mask_there k)) TargetMask.Unset in
-      let routed = ap route_set route ∙ route_set_lem r.routed r.route in
-      let affinity = ap route_held route ∙ route_held_lem r.routed r.route h.tidy.0 in
-      let masked = ap mask_set mask ∙ mask_set_lem r.masked r.cpu_target_mask in
-      let cores = ap mask_held mask ∙ mask_held_lem r.masked r.cpu_target_mask h.tidy.1 in
-      let interrupt = record_path _ r (sym h.intid) life (λ k. (record { 0 = priority_there k }, trigger k, routed k, affinity k, masked k, cores k)) in
+      let route : route_in_word (word_of s) ≡ r.route = (λ k. cond (bit 9 (lit< tt) k) (Some (route_there k)) None) ∙ read_back r.route no_levels in
+      let mask : mask_in_word (word_of s) ≡ r.cpu_target_mask = (λ k. cond (bit 10 (lit< tt) k) (Some (mask_there k)) None) ∙ read_back r.cpu_target_mask 0 in
+      let interrupt = record_path _ r (sym h.intid) life (λ k. (record { 0 = priority_there k }, trigger k, route k, mask k)) in
       λ k. record { interrupt = interrupt k; ownership = record { explicitly_owned = bit 7 (lit< tt) k; fixed_route = bit 8 (lit< tt) k } }
 
   -- and are good
@@ -205,20 +199,19 @@ module _ (raw : ℕ) (s : Slot) (h : Held raw s) where
       let r = s.interrupt in
       let o = s.ownership in
       let spare : eqb (word_of s / 2 ^ 11 % 32) 0 ≡ true = eq-eqb (word_of s / 2 ^ 11 % 32) 0 (omega (arith, above)) in
-      let unrouted : (r.routed || eqb (levels r.route) 0) ≡ true = zero_or r.routed _ (λ e. ap levels (h.tidy.0 e)) in
-      let unmasked : (r.masked || eqb r.cpu_target_mask 0) ≡ true = zero_or r.masked _ h.tidy.1 in
+      let unrouted : (is_some r.route || eqb (levels (route_kept s)) 0) ≡ true = absent_zero levels no_levels r.route refl in
+      let unmasked : (is_some r.cpu_target_mask || eqb (mask_kept s) 0) ≡ true = absent_zero (λ m. m) 0 r.cpu_target_mask refl in
       let claimed : (not o.fixed_route || o.explicitly_owned) ≡ true = or_else o.fixed_route _ h.fixed in
-      simp (spare, mark 7 (lit< tt), mark 8 (lit< tt), mark 9 (lit< tt), mark 10 (lit< tt), levels_there, mask_there, h.tidy.2, claimed, unrouted, unmasked)
+      simp (spare, mark 7 (lit< tt), mark 8 (lit< tt), mark 9 (lit< tt), mark 10 (lit< tt), levels_there, mask_there, h.tidy, claimed, unrouted, unmasked)
 
   -- 8 bytes are enough for them
   pub word_fits : word_of s < 2 ^ 64
-  word_fits = omega (arith, above)
+  word_fits = omega (arith, above, mask_fits, levels_fit)
 
   -- byte by byte: two bytes of flags, the priority, the target mask, and the affinity levels 0 to 3
-  pub record_bytes : let a = s.interrupt.route in bytes_of 8 (word_of s)
-      ≡ flagged (first_flags s) 0 ∷ flagged (second_flags s) 0 ∷ s.interrupt.priority.0 ∷ s.interrupt.cpu_target_mask ∷ a.aff0 ∷ a.aff1 ∷ a.aff2 ∷ a.aff3 ∷ []
+  pub record_bytes : let a = route_kept s in bytes_of 8 (word_of s)
+      ≡ flagged (first_flags s) 0 ∷ flagged (second_flags s) 0 ∷ s.interrupt.priority.0 ∷ mask_kept s ∷ a.aff0 ∷ a.aff1 ∷ a.aff2 ∷ a.aff3 ∷ []
   record_bytes =
-      let a = s.interrupt.route in
       let next = flagged (second_flags s) (values s) in
       let low : word_of s ≡ flagged (first_flags s) 0 + 256 * next = laid ∙ flags-apart (first_flags s) next in
       let high : next ≡ flagged (second_flags s) 0 + 8 * values s = flags-apart (second_flags s) (values s) in
@@ -274,10 +267,6 @@ values_in w h =
     let p4 : w / 2 ^ 32 ≡ w / 2 ^ 24 / 256 = sym (div-div-eq-div-mul w (2 ^ 24) 256) in
     rw (p4, p3, p2) (spare_zero (w / 2 ^ 11) h)
 
-route_levels : (b : Bool) (a : GicAffinity) (n : ℕ) → levels a ≡ n → (b ≡ false → n ≡ 0) → levels (route_held (cond b (Route.To a) Route.Unset)) ≡ n
-route_levels true a n e z = e
-route_levels false a n e z = sym (z refl)
-
 -- good bytes mean an SPI that an image can keep
 pub held_in : (raw w : ℕ) → good_word w ≡ true → Held raw (slot_in raw w)
 unfolding slot_in restored
@@ -285,14 +274,10 @@ held_in raw w ok =
     let g = good_parts w ok in
     record {
       intid = refl;
-      tidy = (
-        no_route (routed_in w) (bytes_in w),
-        no_mask (masked_in w) (byte_of 3 w),
-        rw (route_set_lem (routed_in w) (bytes_in w), mask_set_lem (masked_in w) (byte_of 3 w)) g.apart,
-      );
+      tidy = rw (is_there (routed_in w) (bytes_in w), is_there (masked_in w) (byte_of 3 w)) g.apart;
       priority = omega arith;
-      mask = mask_byte (masked_in w) (byte_of 3 w) (omega arith);
-      route = route_bytes (routed_in w) (bytes_in w) (record { byte3 = omega arith; byte2 = omega arith; byte1 = omega arith; byte0 = omega arith });
+      mask = if_there (λ m. m < 256) (masked_in w) (byte_of 3 w) (omega arith);
+      route = if_there Bytes (routed_in w) (bytes_in w) (record { byte3 = omega arith; byte2 = omega arith; byte1 = omega arith; byte0 = omega arith });
       fixed = g.claimed;
     }
 
@@ -303,12 +288,13 @@ word_of_slot raw w fits ok =
     let s = slot_in raw w in
     let g = good_parts w ok in
     let edge = edge_set (flag_at w 6) in
-    let routed = route_set_lem (routed_in w) (bytes_in w) in
-    let masked = mask_set_lem (masked_in w) (byte_of 3 w) in
-    let route : levels s.interrupt.route ≡ w / 2 ^ 32 = route_levels (routed_in w) (bytes_in w) (w / 2 ^ 32) (levels_in w fits) g.unrouted in
-    let mask : s.interrupt.cpu_target_mask ≡ byte_of 3 w = mask_held_lem (masked_in w) (byte_of 3 w) g.unmasked in
+    let routed = is_there (routed_in w) (bytes_in w) in
+    let masked = is_there (masked_in w) (byte_of 3 w) in
+    let all = levels_in w fits in
+    let route : levels (route_kept s) ≡ w / 2 ^ 32 = number_there levels no_levels (routed_in w) (bytes_in w) (λ e. all ∙ g.unrouted e) ∙ all in
+    let mask : mask_kept s ≡ byte_of 3 w = number_there (λ m. m) 0 (masked_in w) (byte_of 3 w) g.unmasked in
     let above : values s ≡ w / 2 ^ 11 = rw (route, mask) (values_in w g.spare) in
-    word-laid s (held_in raw w ok).tidy
+    word-laid s
     ∙ (λ k. flagged (flag_at w 0 ∷ flag_at w 1 ∷ flag_at w 2 ∷ flag_at w 3 ∷ flag_at w 4 ∷ flag_at w 5 ∷ edge k ∷ flag_at w 7 ∷ flag_at w 8 ∷ routed k ∷ masked k ∷ []) (above k))
     ∙ sym (flags_of w 11)
 
@@ -316,16 +302,16 @@ word_of_slot raw w fits ok =
 
 -- what is held of the settings
 abbrev HeldSettings : Settings → Type 0
-HeldSettings s = Tidy s × (s.0.0 < 256) × (s.5 < 256) × Bytes s.3
+HeldSettings s = Tidy s × (s.0.0 < 256) × IfSome s.3 (λ m. m < 256) × IfSome s.2 Bytes
 
 held_stays : Stays HeldSettings
 held_stays =
     record {
       priority = λ p s h ok. (ok.0, h, ok.2, ok.3);
       trigger = λ t s ok. ok;
-      route = λ a s h ok. (((λ e. absurd (true≢false e)), (λ e. refl), refl), ok.1, omega arith, h);
-      unroute = λ s ok. (((λ e. refl), ok.0.1, refl), ok.1, ok.2, zero_bytes);
-      mask = λ m s h ok. (((λ e. refl), (λ e. absurd (true≢false e)), refl), ok.1, h, zero_bytes);
+      route = λ a s h ok. (refl, ok.1, tt, h);
+      unroute = λ s ok. (refl, ok.1, ok.2, tt);
+      mask = λ m s h ok. (refl, ok.1, h, tt);
     }
 
 held_with : {raw : ℕ} (s : Slot) → s.interrupt.intid ≡ IntId.Spi (record { 0 = raw }) → HeldSettings (settings_of s.interrupt)
@@ -335,7 +321,7 @@ held_with s i k f = record { intid = i; tidy = k.0; priority = k.1; mask = k.2; 
 -- a new SPI is one
 pub held-fresh : (raw : ℕ) → Held raw (fresh_spi raw)
 unfolding fresh
-held-fresh raw = held_with (fresh_spi raw) refl (((λ e. refl), (λ e. refl), refl), omega arith, omega arith, zero_bytes) (λ e. absurd (false≢true e))
+held-fresh raw = held_with (fresh_spi raw) refl (refl, omega arith, tt, tt) (λ e. absurd (false≢true e))
 
 -- what a record of an image means is one, be its bytes good or not
 pub meant-held : (raw w : ℕ) → Held raw (meant raw w)

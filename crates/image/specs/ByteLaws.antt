@@ -2,13 +2,14 @@
 use Prim.Native.Nat.{ℕ, zero, suc, ◌+◌, ◌*◌, ◌/◌, ◌%◌, ◌^◌, ◌≤◌, ◌<◌}
 use Rattle.std.specs.Prelude.{◌≡◌, refl, ◌⊎◌, length, set, drop}
 use Rattle.std.proofs.Math.Path.{ap}
-use Rattle.std.proofs.Common.{◌∙◌, inl, inr, ⊎_elim, add-zero, mul-suc, mul_assoc, div-one, pow-add, length-append, length-set, drop-cons, get_or-append-add, get_or-set_same, get_or-set_other}
+use Rattle.std.proofs.Common.{sym, ◌∙◌, inl, inr, ⊎_elim, add-zero, mul-suc, mul_assoc, div-one, pow-add, length-append, length-set, take, take-append-drop, length-take-le, get_or-take, drop-cons, get_or-append-add, get_or-set_same, get_or-set_other}
 use mathlib.Core.List.{List, [], ◌∷◌, ◌++◌, append_assoc}
 use Rattle.std.proofs.Math.Nat.{pow-suc, pow-succ', one-le-pow, div-div-eq-div-mul}
 use native.Mathlib.Omega.{arith}
 use Rattle.std.proofs.Math.Arith.{mod-mul}
 use Rattle.std.proofs.Math.ListN.{get_or}
-use Rattle.std.proofs.lemmas.List.Edits.{sets}
+use Rattle.std.proofs.Math.Seq.{paste}
+use Rattle.std.proofs.lemmas.List.Edits.{sets, sets-eq, paste_all}
 use Rattle.theory.specs.Lists.{tabulate}
 use Rattle.image.specs.Bytes.{byte_of, bytes_of, number_at, flat, Bytes}
 
@@ -18,6 +19,10 @@ use Rattle.image.specs.Bytes.{byte_of, bytes_of, number_at, flat, Bytes}
 pub sets-append : (xs ys l : List ℕ) (i : ℕ) → sets l i (xs ++ ys) ≡ sets (sets l i xs) (i + length xs) ys
 sets-append [] ys l i = rw (add-zero i)
 sets-append (x ∷ xs) ys l i = let e : i + suc (length xs) ≡ suc i + length xs = omega arith in rw e (sets-append xs ys (set l i x) (suc i))
+
+-- and is a part that was replaced as a whole
+pub sets_part : (vs l : List ℕ) (i k : ℕ) → length vs ≡ k → i + k ≤ length l → paste l i vs k ≡ sets l i vs
+sets_part vs l i k e h = paste_all l i vs k (sym e) ∙ (rw (sets-eq vs l i (rw e h), e, append_assoc))
 
 -- the places beside the stored ones are as they were
 pub sets_beside : (vs l : List ℕ) (i j : ℕ) → (j < i) ⊎ (i + length vs ≤ j) → get_or (sets l i vs) j 0 ≡ get_or l j 0
@@ -59,6 +64,13 @@ bytes_split zero k n = let e : 0 + k ≡ k = omega arith in rw (e, div-one n)
 bytes_split (suc j) k n =
     let e : suc j + k ≡ suc (j + k) = omega arith in
     rw (e, bytes_split j k (n / 256), pow-succ' 256 j, ← div-div-eq-div-mul n 256 (256 ^ j))
+
+-- the first of them are those of fewer
+pub bytes_taken : (k j n : ℕ) → k ≤ j → take k (bytes_of j n) ≡ bytes_of k n
+unfolding bytes_of
+bytes_taken zero j n h = refl
+bytes_taken (suc k) zero n h = absurd (omega arith)
+bytes_taken (suc k) (suc j) n h = ap (λ l. n % 256 ∷ l) (bytes_taken k j (n / 256) (omega arith))
 
 -- the low bytes go by what is left of a division alone
 pub bytes_low : (k n : ℕ) → bytes_of k (n % 256 ^ k) ≡ bytes_of k n
@@ -114,6 +126,13 @@ number_past zero o xs l = refl
 number_past (suc k) o xs l =
     let e : length xs + o + 1 ≡ length xs + (o + 1) = omega arith in
     rw (get_or-append-add, e, number_past k (o + 1) xs l)
+
+-- it is the number of the part that they are
+pub number_part : (k at n : ℕ) (l : List ℕ) → at ≤ length l → k ≤ n → number_at k 0 (take n (drop at l)) ≡ number_at k at l
+number_part k at n l h g =
+    number_same k 0 (take n (drop at l)) (drop at l) (λ j p q. get_or-take n (drop at l) j 0 (omega arith))
+    ∙ sym (number_past k 0 (take at l) (drop at l))
+    ∙ (let e : length (take at l) + 0 ≡ at = rw (length-take-le at l h) (omega arith) in rw (e, take-append-drop))
 
 -- a number that fits is read back where its bytes were stored
 pub number-stored : (k : ℕ) (l : List ℕ) (at w : ℕ) → at + k ≤ length l → w < 256 ^ k → number_at k at (sets l at (bytes_of k w)) ≡ w

@@ -1,14 +1,13 @@
 -- An SPI as it is kept: 8 bytes, read as one number whose lowest byte is byte 0.
-use Rattle.std.specs.Prelude.{ℕ, ◌+◌, ◌*◌, ◌/◌, ◌%◌, ◌^◌, Bool, not, ◌&&◌, ◌||◌, cond, eqb}
+use Rattle.std.specs.Prelude.{ℕ, ◌+◌, ◌*◌, ◌/◌, ◌%◌, ◌^◌, Bool, not, ◌&&◌, ◌||◌, cond, eqb, Option, Some, None}
 use mir.Val.{bool_byte}
+use Rattle.attributes.specs.declared.attributes.GicAffinity.{GicAffinity}
 use Rattle.attributes.specs.declared.attributes.TriggerMode.{TriggerMode}
 use Rattle.attributes.specs.declared.attributes.TriggerMode.TheVariants.{Edge, Level}
 use Rattle.attributes.specs.Affinity.{affinity}
 use Rattle.identifiers.specs.declared.types.IntId.{IntId}
 use Rattle.life.specs.declared.life.Life.{Life}
 use Rattle.life.specs.Life.{flags, redelivery, line}
-use Rattle.interrupt.specs.declared.interrupt.Route.{Route}
-use Rattle.interrupt.specs.declared.interrupt.TargetMask.{TargetMask}
 use Rattle.interrupt.specs.Records.{restored, route_in, mask_in}
 use Rattle.ownership.specs.declared.ownership.Ownership.{Ownership}
 use Rattle.slot.specs.declared.slot.Slot.{Slot}
@@ -40,11 +39,11 @@ abbrev pub ownership_in : ℕ → Ownership
 ownership_in w = record { explicitly_owned = claimed_in w; fixed_route = fixed_in w }
 
 -- byte 2 is the priority and byte 3 the target mask; bytes 4 to 7 are the affinity levels 0 to 3
-abbrev pub route_in_word : ℕ → Route
-route_in_word w = cond (routed_in w) (Route.To (affinity (byte_of 7 w) (byte_of 6 w) (byte_of 5 w) (byte_of 4 w))) Route.Unset
+abbrev pub route_in_word : ℕ → Option GicAffinity
+route_in_word w = cond (routed_in w) (Some (affinity (byte_of 7 w) (byte_of 6 w) (byte_of 5 w) (byte_of 4 w))) None
 
-abbrev pub mask_in_word : ℕ → TargetMask
-mask_in_word w = cond (masked_in w) (TargetMask.Cores (byte_of 3 w)) TargetMask.Unset
+abbrev pub mask_in_word : ℕ → Option ℕ
+mask_in_word w = cond (masked_in w) (Some (byte_of 3 w)) None
 
 -- the SPI of this INTID that the bytes mean, where they are good
 unfoldable pub slot_in : ℕ → ℕ → Slot
@@ -65,13 +64,13 @@ abbrev pub edge_bit : TriggerMode → ℕ
 edge_bit Edge = 1
 edge_bit Level = 0
 
-abbrev pub route_word : Route → ℕ
-route_word (Route.To a) = 2 ^ 9 + 2 ^ 32 * a.aff0 + 2 ^ 40 * a.aff1 + 2 ^ 48 * a.aff2 + 2 ^ 56 * a.aff3
-route_word Route.Unset = 0
+abbrev pub route_word : Option GicAffinity → ℕ
+route_word (Some a) = 2 ^ 9 + 2 ^ 32 * a.aff0 + 2 ^ 40 * a.aff1 + 2 ^ 48 * a.aff2 + 2 ^ 56 * a.aff3
+route_word None = 0
 
-abbrev pub mask_word : TargetMask → ℕ
-mask_word (TargetMask.Cores m) = 2 ^ 10 + 2 ^ 24 * m
-mask_word TargetMask.Unset = 0
+abbrev pub mask_word : Option ℕ → ℕ
+mask_word (Some m) = 2 ^ 10 + 2 ^ 24 * m
+mask_word None = 0
 
 unfoldable pub word_of : Slot → ℕ
 word_of s =

@@ -6,7 +6,7 @@ ghost use Rattle.image.specs.Kept.{routed_in, masked_in, good_word, life_in, tri
 
 use attributes::attributes::{GicAffinity, Priority, TriggerMode};
 use identifiers::types::{IntId, SpiId};
-use interrupt::interrupt::{InterruptRecord, Route, TargetMask};
+use interrupt::interrupt::InterruptRecord;
 use life::life::Life;
 use ownership::ownership::Ownership;
 use slot::slot::Slot;
@@ -14,11 +14,23 @@ use slot::slot::Slot;
 // A fresh SPI: the default priority, and nothing else.
 pub const FRESH: u64 = 0x80_0000;
 
+fn routed_in(word: u64) -> bool
+    ensures { result ≡ routed_in word }
+{
+    word / 0x200 % 2 == 1
+}
+
+fn masked_in(word: u64) -> bool
+    ensures { result ≡ masked_in word }
+{
+    word / 0x400 % 2 == 1
+}
+
 // The number without its affinity, if a route is present.
 fn below_route(word: u64) -> u64
     ensures { result ≡ cond (routed_in word) (word % 2 ^ 32) word }
 {
-    if word / 0x200 % 2 == 1 {
+    if routed_in(word) {
         word % 0x1_0000_0000
     } else {
         word
@@ -29,7 +41,7 @@ fn below_route(word: u64) -> u64
 fn mask_end(word: u64) -> u64
     ensures { result ≡ cond (masked_in word) (2 ^ 32) (2 ^ 24) }
 {
-    if word / 0x400 % 2 == 1 {
+    if masked_in(word) {
         0x1_0000_0000
     } else {
         0x100_0000
@@ -60,36 +72,20 @@ fn life_in(word: u64) -> Life
 fn trigger_in(word: u64) -> TriggerMode
     ensures { result ≡ trigger_in word }
 {
-    if word / 0x40 % 2 == 1 {
-        TriggerMode::Edge
-    } else {
-        TriggerMode::Level
-    }
+    TriggerMode::of(word / 0x40 % 2 == 1)
 }
 
-fn route_in(word: u64) -> Route
+fn route_in(word: u64) -> Option<GicAffinity>
     ensures { result ≡ route_in_word word }
 {
-    if word / 0x200 % 2 == 1 {
-        Route::To(GicAffinity::new(
-            (word / 0x100_0000_0000_0000 % 256) as u8,
-            (word / 0x1_0000_0000_0000 % 256) as u8,
-            (word / 0x100_0000_0000 % 256) as u8,
-            (word / 0x1_0000_0000 % 256) as u8,
-        ))
-    } else {
-        Route::Unset
-    }
+    let [_, _, _, _, aff0, aff1, aff2, aff3] = word.to_le_bytes();
+    routed_in(word).then_some(GicAffinity::new(aff3, aff2, aff1, aff0))
 }
 
-fn mask_in(word: u64) -> TargetMask
+fn mask_in(word: u64) -> Option<u8>
     ensures { result ≡ mask_in_word word }
 {
-    if word / 0x400 % 2 == 1 {
-        TargetMask::Cores((word / 0x100_0000 % 256) as u8)
-    } else {
-        TargetMask::Unset
-    }
+    masked_in(word).then_some((word / 0x100_0000 % 256) as u8)
 }
 
 fn ownership_in(word: u64) -> Ownership
@@ -122,12 +118,12 @@ pub fn slot_in(spi: SpiId, word: u64) -> Slot
 fn life_word(life: Life) -> u64
     ensures { (result ≡ life_word life) × (result < 64) }
 {
-    (life.enabled as u64)
-        + 2 * (life.pending as u64)
-        + 4 * (life.active as u64)
-        + 8 * (life.inflight as u64)
-        + 16 * (life.redelivery_pending as u64)
-        + 32 * (life.line_asserted as u64)
+    life.enabled as u64
+        + 2 * life.pending as u64
+        + 4 * life.active as u64
+        + 8 * life.inflight as u64
+        + 16 * life.redelivery_pending as u64
+        + 32 * life.line_asserted as u64
 }
 
 fn edge_bit(trigger: TriggerMode) -> u64
@@ -139,26 +135,18 @@ fn edge_bit(trigger: TriggerMode) -> u64
     }
 }
 
-fn route_word(route: Route) -> u64
+fn route_word(route: Option<GicAffinity>) -> u64
     ensures { (result ≡ route_word route) × (result ≤ 0xffff_ffff_0000_0200) }
 {
-    match route {
-        Route::To(affinity) => 0x200
-            + 0x1_0000_0000 * (affinity.aff0() as u64)
-            + 0x100_0000_0000 * (affinity.aff1() as u64)
-            + 0x1_0000_0000_0000 * (affinity.aff2() as u64)
-            + 0x100_0000_0000_0000 * (affinity.aff3() as u64),
-        Route::Unset => 0,
-    }
+    route.map_or(0, |a| {
+        0x200 + u64::from_le_bytes([0, 0, 0, 0, a.aff0(), a.aff1(), a.aff2(), a.aff3()])
+    })
 }
 
-fn mask_word(mask: TargetMask) -> u64
+fn mask_word(mask: Option<u8>) -> u64
     ensures { (result ≡ mask_word mask) × (result ≤ 0xff00_0400) }
 {
-    match mask {
-        TargetMask::Cores(cores) => 0x400 + 0x100_0000 * (cores as u64),
-        TargetMask::Unset => 0,
-    }
+    mask.map_or(0, |cores| 0x400 + 0x100_0000 * cores as u64)
 }
 
 // The number that an SPI is kept as.
@@ -170,9 +158,9 @@ pub fn word_of(slot: Slot) -> u64
     let ownership = slot.ownership();
     life_word(interrupt.life())
         + 64 * edge_bit(interrupt.trigger())
-        + 128 * (ownership.explicitly_owned as u64)
-        + 256 * (ownership.fixed_route as u64)
-        + 0x1_0000 * (interrupt.priority().raw() as u64)
+        + 128 * ownership.explicitly_owned as u64
+        + 256 * ownership.fixed_route as u64
+        + 0x1_0000 * interrupt.priority().raw() as u64
         + mask_word(interrupt.cpu_target_mask())
         + route_word(interrupt.route())
 }

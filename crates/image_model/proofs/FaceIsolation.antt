@@ -1,9 +1,8 @@
 -- The two facts on ownership, over images: which bytes a guest write cannot change, and which a guest read cannot see.
-use Rattle.std.specs.Prelude.{ℕ, ◌+◌, ◌-◌, ◌*◌, ◌/◌, ◌^◌, ◌≤◌, ◌<◌, ◌≡◌, Bool, true, false, cond, List, ltb, length, get_or}
+use Rattle.std.specs.Prelude.{ℕ, ◌+◌, ◌-◌, ◌*◌, ◌/◌, ◌^◌, ◌≤◌, ◌<◌, ◌≡◌, Bool, true, false, cond, List, ltb, length, get_or, Option, Some, None}
 use Rattle.std.proofs.Math.Path.{refl}
 use Rattle.std.proofs.Common.{sym, ap, subst, ◌∙◌, true≢false, arith, ltb-true}
 use Rattle.std.proofs.Math.Logic.{by_cases}
-use Rattle.std.proofs.Math.Option.{some, some-injective, none-ne-some}
 use Rattle.std.proofs.Math.Decide.{dec_lt}
 use Rattle.std.proofs.Math.ListN.{get_or-eq_default}
 use Rattle.place.specs.Table.{capacity, table_size}
@@ -30,14 +29,13 @@ use Rattle.image.specs.Header.{header_in, header_of, good_image}
 use Rattle.image.proofs.HeaderLaws.{fitting_image}
 use Rattle.image.specs.Meaning.{record_at, meant, meant_at, table, meaning}
 use Rattle.image.proofs.MeaningLaws.{length-table, table_at, named_slot, meaning-kept, kept_step}
-use Rattle.image_model.specs.declared.told.WidthAnswer.{WidthAnswer}
-use Rattle.image_model.specs.declared.told.WidthAnswer.TheVariants.{Of, No}
-use Rattle.image_model.specs.Told.{told, bad_image, width_answer}
+use Rattle.image_model.specs.Told.{told, bad_image}
+use Rattle.registers.specs.Registers.{width_of}
 use Rattle.image_model.specs.Face.{read, write, Seen, seen, named_in, good_named, good_where, image_after, refuses, answers}
 use Rattle.image_model.specs.GoodLaws.{good-at, good-alike}
 use Rattle.image_model.proofs.FaceLaws.{record_after_lem, unnamed_stays, after_bytes}
 use Rattle.image_model.specs.FaceRefusals.{with_width, on_core}
-use Rattle.image_model.proofs.FaceRefusals.{seen-core, bad_image_lem, seen_either}
+use Rattle.image_model.proofs.FaceRefusals.{same_Some, seen-core, bad_image_lem, seen_either}
 use Rattle.image_model.specs.FaceIsolation.{SparedRecord, AlikeRecord, same, unseen, AlikeImages}
 
 -- byte 0 has the claim and byte 1 the fixed mark
@@ -74,11 +72,11 @@ module _ (offset w v : ℕ) (image list : List ℕ) (bytes : Bytes image) where
   -- what holds of the image that a write leaves, refused or not
   left_by : (P : List ℕ → Type 0) → P image → (good_image image ≡ true → (x : AccessWidth) → good_named (call x) image ≡ true → P (image_after (call x) image)) → P new
   left_by P stays done =
-      seen_either (λ s. P s.image) image list (λ t h. stays) (write offset w v) (λ c good is fine. go (width_answer w) c good is fine)
+      seen_either (λ s. P s.image) image list (λ t h. stays) (write offset w v) (λ c good is fine. go (width_of w) c good is fine)
     where
-      go : (a : WidthAnswer) (c : Call) → good_image image ≡ true → with_width a call ≡ some c → good_named c image ≡ true → P (image_after c image)
-      go (Of x) c good e fine = subst (λ (q : Call). good_named q image ≡ true → P (image_after q image)) (some-injective (call x) c e) (done good x) fine
-      go No c good e fine = absurd (none-ne-some c e)
+      go : (a : Option AccessWidth) (c : Call) → good_image image ≡ true → with_width a call ≡ Some c → good_named c image ≡ true → P (image_after c image)
+      go (Some x) c good e fine = subst (λ (q : Call). good_named q image ≡ true → P (image_after q image)) (same_Some _ _ e) (done good x) fine
+      go None c good e fine = cc
 
   after-count : (x : AccessWidth) → (step (call x) (meaning image)).count ≡ (header_of image).spi_count
   unfolding step
@@ -198,15 +196,15 @@ module _ (l m : List ℕ) (alike : AlikeImages l m) where
       tells x true = ap (λ (r : Reply). told r.answer) (guest_read_blind (meaning l) (meaning m) meanings_alike offset x)
       tells x false = refl
 
-      width : (a : WidthAnswer) → (on_core (with_width a (λ x. Call.read offset x)) l list).told ≡ (on_core (with_width a (λ x. Call.read offset x)) m list).told
-      width (Of x) =
+      width : (a : Option AccessWidth) → (on_core (with_width a (λ x. Call.read offset x)) l list).told ≡ (on_core (with_width a (λ x. Call.read offset x)) m list).told
+      width (Some x) =
           tells x (good_named (Call.read offset x) l)
           ∙ ap (λ (b : Bool). (cond b (answers (Call.read offset x) m list) (refuses bad_image m list)).told) (same_named (Call.read offset x))
-      width No = refl
+      width None = refl
 
       go : (b : Bool) → good_image l ≡ b → (seen (read offset w) l list).told ≡ (seen (read offset w) m list).told
       go true good =
           ap (λ (s : Seen). s.told) (seen-core (read offset w) l list good)
-          ∙ width (width_answer w)
+          ∙ width (width_of w)
           ∙ sym (ap (λ (s : Seen). s.told) (seen-core (read offset w) m list (sym same_good ∙ good)))
       go false bad = ap (λ (s : Seen). s.told) (bad_image_lem (read offset w) l list bad) ∙ sym (ap (λ (s : Seen). s.told) (bad_image_lem (read offset w) m list (sym same_good ∙ bad)))

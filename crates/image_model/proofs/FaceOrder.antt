@@ -1,9 +1,9 @@
 -- The face over runs of calls. From the image of a Distributor, any calls of the face leave the image of what the core's calls make of it,
 -- so the core's theorems on order hold of images, byte by byte.
-use Rattle.std.specs.Prelude.{ℕ, zero, suc, ◌+◌, ◌-◌, ◌*◌, ◌/◌, ◌^◌, ◌<◌, ◌≡◌, refl, Bool, true, false, ◌&&◌, cond, List, [], ◌∷◌, ◌++◌, ◌≢◌, leb, eqb, length, get_or, take}
+use Rattle.std.specs.Prelude.{ℕ, zero, suc, ◌+◌, ◌-◌, ◌*◌, ◌/◌, ◌^◌, ◌<◌, ◌≡◌, refl, Bool, true, false, ◌&&◌, cond, List, [], ◌∷◌, ◌++◌, ◌≢◌, leb, eqb, length, get_or, take, Some, None, Option}
 use Rattle.std.proofs.Common.{sym, ap, subst, ◌∙◌, arith, leb-true, take_at}
 use Rattle.std.proofs.Math.Path.{subst⁻¹}
-use Rattle.std.proofs.Math.Option.{Option, none, some, some-injective, none-ne-some}
+use Rattle.std.proofs.Math.Option.{some, some-injective}
 use Rattle.std.proofs.Math.ListN.{get_elem?}
 use Rattle.theory.specs.Lists.{tabulate, laid}
 use Rattle.theory.specs.Elements.{at_some}
@@ -37,15 +37,14 @@ use Rattle.image.specs.Meaning.{meaning, image_of}
 use Rattle.image.specs.MeaningLaws.{Kept, Whole}
 use Rattle.image.proofs.MeaningLaws.{image_whole, image_meaning, meaning_image, record_there, kept-created, kept_step}
 use Rattle.image_model.specs.declared.told.Told.{Told}
-use Rattle.image_model.specs.declared.told.WidthAnswer.{WidthAnswer}
-use Rattle.image_model.specs.declared.told.WidthAnswer.TheVariants.{Of, No}
-use Rattle.image_model.specs.Told.{told, bad_image, width_answer}
+use Rattle.image_model.specs.Told.{told, bad_image}
+use Rattle.registers.specs.Registers.{width_of}
 use Rattle.image_model.specs.Face.{FaceCall, read, write, host, Seen, seen, named_in, good_named, image_after, refuses}
 use Rattle.image_model.specs.Create.{settings, create_seen}
 use Rattle.image_model.specs.GoodLaws.{good_all}
 use Rattle.image_model.proofs.FaceLaws.{after_means, after_whole}
 use Rattle.image_model.specs.FaceRefusals.{with_width, core_call}
-use Rattle.image_model.proofs.FaceRefusals.{bad_width_lem, core-answers, core-number}
+use Rattle.image_model.proofs.FaceRefusals.{same_Some, bad_width_lem, core-answers, core-number}
 use Rattle.image_model.specs.FaceOrder.{Request, Heard, leaves, hears, TypedRequest, AllTyped, on_call, heard_on, named_on, core_step, core_hears, request_names, calls, core_calls}
 
 -- ---- calls, one after another
@@ -55,26 +54,26 @@ run-core [] d = refl
 run-core (r ∷ rs) d = go (core_call r.call r.list) (λ e. run-core rs e)
   where
     go : (o : Option Call) → ((e : Distributor) → run core_step rs e ≡ run step (core_calls rs) e) → run core_step rs (on_call o d) ≡ run step (calls o ++ core_calls rs) d
-    go none rest = rest d
-    go (some c) rest = rest (step c d)
+    go None rest = rest d
+    go (Some c) rest = rest (step c d)
 
 -- ---- one request on the image of a Distributor
 
-typed_core : (r : Request) → TypedRequest r → (c : Call) → core_call r.call r.list ≡ some c → TypedCall c
+typed_core : (r : Request) → TypedRequest r → (c : Call) → core_call r.call r.list ≡ Some c → TypedCall c
 typed_core r t c e = go r.call refl e
   where
-    other : (k : Call) → ((h : Change) (raw : ℕ) → k ≡ Call.change h raw → ◌≡◌ {A = ℕ} 0 1) → some k ≡ some c → TypedCall c
-    other k apart e = subst TypedCall (some-injective k c e) (record { change_typed = λ h raw z. let w = apart h raw z in absurd (omega arith) })
+    other : (k : Call) → ((h : Change) (raw : ℕ) → k ≡ Call.change h raw → ◌≡◌ {A = ℕ} 0 1) → Some k ≡ Some c → TypedCall c
+    other k apart e = subst TypedCall (same_Some _ _ e) (record { change_typed = λ h raw z. let w = apart h raw z in absurd (omega arith) })
 
-    width : (a : WidthAnswer) (k : AccessWidth → Call) → ((x : AccessWidth) (h : Change) (raw : ℕ) → k x ≡ Call.change h raw → ◌≡◌ {A = ℕ} 0 1) → with_width a k ≡ some c → TypedCall c
-    width (Of x) k apart e = other (k x) (apart x) e
-    width No k apart e = absurd (none-ne-some c e)
+    width : (a : Option AccessWidth) (k : AccessWidth → Call) → ((x : AccessWidth) (h : Change) (raw : ℕ) → k x ≡ Call.change h raw → ◌≡◌ {A = ℕ} 0 1) → with_width a k ≡ Some c → TypedCall c
+    width (Some x) k apart e = other (k x) (apart x) e
+    width None k apart e = cc
 
-    go : (q : FaceCall) → r.call ≡ q → core_call q r.list ≡ some c → TypedCall c
-    go (read offset w) z e = width (width_answer w) (λ x. Call.read offset x) (λ x h raw y. cc) e
-    go (write offset w v) z e = width (width_answer w) (λ x. Call.write offset x v (length r.list / 4)) (λ x h raw y. cc) e
+    go : (q : FaceCall) → r.call ≡ q → core_call q r.list ≡ Some c → TypedCall c
+    go (read offset w) z e = width (width_of w) (λ x. Call.read offset x) (λ x h raw y. cc) e
+    go (write offset w v) z e = width (width_of w) (λ x. Call.write offset x v (length r.list / 4)) (λ x h raw y. cc) e
     go (host h raw) z e =
-        subst TypedCall (some-injective (Call.change h raw) c e)
+        subst TypedCall (same_Some _ _ e)
         (record { change_typed = λ g n y. let same : h ≡ g = cc in subst TypedChange same (t.change_typed h raw z) })
 
 -- the image of a Distributor that can be kept has no bad record
@@ -101,10 +100,10 @@ module _ (r : Request) (d : Distributor) (kept : Kept d) where
       good = (image_whole d kept).good
 
       go : (o : Option Call) → core_call r.call r.list ≡ o → hears r (image_of d) ≡ heard_on o r.list d
-      go none e = ap (λ (s : Seen). record { told = s.told; list = s.list }) (bad_width_lem r.call (image_of d) r.list good e)
-      go (some c) e =
+      go None e = ap (λ (s : Seen). record { told = s.told; list = s.list }) (bad_width_lem r.call (image_of d) r.list good e)
+      go (Some c) e =
           ap (λ (s : Seen). record { told = s.told; list = s.list }) (core-answers r.call (image_of d) r.list good c e (image_named c d kept))
-          ∙ ap (λ (x : Distributor). heard_on (some c) r.list x) (image_meaning d kept)
+          ∙ ap (λ (x : Distributor). heard_on (Some c) r.list x) (image_meaning d kept)
 
   module _ (typed : TypedRequest r) where
     -- and leaves the image of what the core's call makes
@@ -115,8 +114,8 @@ module _ (r : Request) (d : Distributor) (kept : Kept d) where
         good = (image_whole d kept).good
 
         go : (o : Option Call) → core_call r.call r.list ≡ o → leaves r (image_of d) ≡ image_of (on_call o d)
-        go none e = ap (λ (s : Seen). s.image) (bad_width_lem r.call (image_of d) r.list good e)
-        go (some c) e =
+        go None e = ap (λ (s : Seen). s.image) (bad_width_lem r.call (image_of d) r.list good e)
+        go (Some c) e =
             ap (λ (s : Seen). s.image) (core-answers r.call (image_of d) r.list good c e (image_named c d kept))
             ∙ image_step c d kept (typed_core r typed c e)
 
@@ -124,8 +123,8 @@ module _ (r : Request) (d : Distributor) (kept : Kept d) where
     kept_request = go (core_call r.call r.list) refl
       where
         go : (o : Option Call) → core_call r.call r.list ≡ o → Kept (on_call o d)
-        go none e = kept
-        go (some c) e = kept_step c d (typed_core r typed c e) kept
+        go None e = kept
+        go (Some c) e = kept_step c d (typed_core r typed c e) kept
 
 -- ---- any requests, one after another
 
@@ -169,8 +168,8 @@ module _ (rs : List Request) (d : Distributor) (kept : Kept d) (all : AllTyped r
       go (core_call k list) e (ap (λ (t : Told). t.number) (sym same) ∙ six)
     where
       go : (o : Option Call) (e : Distributor) → (heard_on o list e).told.number ≡ 6 → ⊥
-      go none e z = omega arith
-      go (some c) e z = let h = core-number c e in omega arith
+      go None e z = omega arith
+      go (Some c) e z = let h = core-number c e in omega arith
 
 -- ---- from creation, by exported calls
 
@@ -239,21 +238,21 @@ module _ (c : ControllerConfig) (n : ℕ) where
       }
     where
       stays : (o : Option Call) (d : Distributor) → Settled c n d → Settled c n (on_call o d)
-      stays none d ok = ok
-      stays (some k) d ok = core.stays k d ok
+      stays None d ok = ok
+      stays (Some k) d ok = core.stays k d ok
 
       keeps : (o : Option Call) (m : Name) (d : Distributor) → Settled c n d → named_on c (table_size n) o m ≡ false → contents m (on_call o d) ≡ contents m d
-      keeps none m d ok e = refl
-      keeps (some k) m d ok e = core.keeps k m d ok e
+      keeps None m d ok e = refl
+      keeps (Some k) m d ok e = core.keeps k m d ok e
 
       local : (o : Option Call) (m : Name) (d e : Distributor) → Settled c n d → Settled c n e → contents m d ≡ contents m e → contents m (on_call o d) ≡ contents m (on_call o e)
-      local none m d e okd oke h = h
-      local (some k) m d e okd oke h = core.local k m d e okd oke h
+      local None m d e okd oke h = h
+      local (Some k) m d e okd oke h = core.local k m d e okd oke h
 
       same : (o : Option Call) (list : List ℕ) (d e : Distributor) → Settled c n d → Settled c n e → ((m : Name) → named_on c (table_size n) o m ≡ true → contents m d ≡ contents m e)
           → heard_on o list d ≡ heard_on o list e
-      same none list d e okd oke h = refl
-      same (some k) list d e okd oke h = ap (λ (r : Reply). record { told = told r.answer; list = laid (flat 4 r.candidates) list }) (core.told k d e okd oke h)
+      same None list d e okd oke h = refl
+      same (Some k) list d e okd oke h = ap (λ (r : Reply). record { told = told r.answer; list = laid (flat 4 r.candidates) list }) (core.told k d e okd oke h)
 
   settled_run : (rs : List Request) (d : Distributor) → Settled c n d → Settled c n (run core_step rs d)
   settled_run [] d ok = ok

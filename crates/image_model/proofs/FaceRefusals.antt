@@ -1,11 +1,10 @@
 -- What the face refuses, in its order; what a refused call leaves; and what becomes of the list. A call of the face is one call of the
 -- core, or none where its width is none.
-use Rattle.std.specs.Prelude.{ℕ, ◌*◌, ◌/◌, ◌%◌, ◌≤◌, ◌≡◌, Bool, not, ◌&&◌, ◌≢◌, leb, ltb, eqb, length}
+use Rattle.std.specs.Prelude.{ℕ, ◌*◌, ◌/◌, ◌%◌, ◌≤◌, ◌≡◌, Bool, not, ◌&&◌, ◌≢◌, leb, ltb, eqb, length, Ok, Err, Some, None, Option}
 use Rattle.std.proofs.Math.Path.{refl, subst⁻¹}
 use Rattle.std.proofs.Common.{sym, ap, subst, ◌∙◌, arith, eqb-true, ne_eqb, leb-true}
 use Rattle.std.proofs.Math.Bool.{true, false, cond}
 use mathlib.Core.List.{List, [], ◌∷◌}
-use Rattle.std.proofs.Math.Option.{Option, none, some, none-ne-some, some-injective}
 use Rattle.std.proofs.Math.ListN.{get_elem?}
 use Rattle.theory.specs.Bools.{both, refuted}
 use Rattle.theory.specs.Lists.{laid}
@@ -19,8 +18,6 @@ use Rattle.registers.specs.declared.register.AccessWidth.TheVariants.{Byte, Word
 use Rattle.registers.specs.declared.register.Direction.{Direction}
 use Rattle.registers.specs.declared.register.Direction.TheVariants.{Reading, Writing}
 use Rattle.registers.specs.declared.register.Register.TheVariants.{Identification, Ctlr, Typer, Iidr, Fields, Reserved}
-use Rattle.registers.specs.declared.register.Access.{Access}
-use Rattle.registers.specs.declared.register.Access.TheVariants.{To, Refused}
 use Rattle.registers.specs.FrameLaws.{needs_another}
 use Rattle.decoding.specs.Decoding.{decode}
 use Rattle.slot.specs.BankRule.{slot_of}
@@ -39,9 +36,8 @@ use Rattle.image.specs.ByteLaws.{length-flat}
 use Rattle.image.specs.Header.{good_image}
 use Rattle.image.specs.Meaning.{meaning}
 use Rattle.image_model.specs.declared.told.Told.{Told}
-use Rattle.image_model.specs.declared.told.WidthAnswer.{WidthAnswer}
-use Rattle.image_model.specs.declared.told.WidthAnswer.TheVariants.{Of, No}
-use Rattle.image_model.specs.Told.{told, bad_image, bad_width, width_answer}
+use Rattle.image_model.specs.Told.{told, bad_image, bad_width}
+use Rattle.registers.specs.Registers.{width_of, Access}
 use Rattle.image_model.specs.Face.{FaceCall, read, write, host, Seen, seen, named_in, good_named, image_after, refuses, answers, on_records, on_width}
 use Rattle.image_model.specs.GoodLaws.{good_none}
 use Rattle.image_model.proofs.FaceLaws.{still_image}
@@ -49,19 +45,22 @@ use Rattle.image_model.specs.FaceRefusals.{with_width, core_call, on_core, acces
 
 -- ---- the call of the core
 
-width_core : (a : WidthAnswer) (c : AccessWidth → Call) (image list : List ℕ) → on_width a c image list ≡ on_core (with_width a c) image list
-width_core (Of w) c image list = refl
-width_core No c image list = refl
+pub same_Some : {A : Type 0} (x y : A) → Some x ≡ Some y → x ≡ y
+same_Some x y e = cc
+
+width_core : (a : Option AccessWidth) (c : AccessWidth → Call) (image list : List ℕ) → on_width a c image list ≡ on_core (with_width a c) image list
+width_core (Some w) c image list = refl
+width_core None c image list = refl
 
 pub seen-core : (k : FaceCall) (image list : List ℕ) → good_image image ≡ true → seen k image list ≡ on_core (core_call k list) image list
 unfolding seen
-seen-core (read offset w) image list good = rw good (width_core (width_answer w) (λ x. Call.read offset x) image list)
-seen-core (write offset w v) image list good = rw good (width_core (width_answer w) (λ x. Call.write offset x v (length list / 4)) image list)
+seen-core (read offset w) image list good = rw good (width_core (width_of w) (λ x. Call.read offset x) image list)
+seen-core (write offset w v) image list good = rw good (width_core (width_of w) (λ x. Call.write offset x v (length list / 4)) image list)
 seen-core (host h raw) image list good = rw good
 
 -- the widths are 1, 2, 4 and 8
-pub widths : (width_answer 1 ≡ Of Byte) × (width_answer 2 ≡ Of Word) × (width_answer 4 ≡ Of Dword) × (width_answer 8 ≡ Of Qword)
-    × ((w : ℕ) → w ≢ 1 → w ≢ 2 → w ≢ 4 → w ≢ 8 → width_answer w ≡ No)
+pub widths : (width_of 1 ≡ Some Byte) × (width_of 2 ≡ Some Word) × (width_of 4 ≡ Some Dword) × (width_of 8 ≡ Some Qword)
+    × ((w : ℕ) → w ≢ 1 → w ≢ 2 → w ≢ 4 → w ≢ 8 → width_of w ≡ None)
 widths = (refl, refl, refl, refl, λ w one two four eight. rw (ne_eqb w 1 one, ne_eqb w 2 two, ne_eqb w 4 four, ne_eqb w 8 eight))
 
 -- ---- what is refused before a record is looked at
@@ -71,13 +70,13 @@ never vs ws r e = let z : ◌≡◌ {A = ℕ} 0 1 = cc in absurd (omega arith)
 
 -- a read lists none
 read_lists : (d : Distributor) (a : Access) → (read_reply d a).candidates ≡ []
-read_lists d (Refused f) = refl
-read_lists d (To (Identification k)) = refl
-read_lists d (To Ctlr) = refl
-read_lists d (To Typer) = refl
-read_lists d (To Iidr) = refl
-read_lists d (To (Fields b lo m)) = refl
-read_lists d (To Reserved) = refl
+read_lists d (Err f) = refl
+read_lists d (Ok (Identification k)) = refl
+read_lists d (Ok Ctlr) = refl
+read_lists d (Ok Typer) = refl
+read_lists d (Ok Iidr) = refl
+read_lists d (Ok (Fields b lo m)) = refl
+read_lists d (Ok Reserved) = refl
 
 module _ (d : Distributor) (r : ℕ) (ws : List ℕ) where
   -- such a call names nothing
@@ -174,10 +173,10 @@ module _ (k : FaceCall) (image list : List ℕ) where
 
   module _ (good : good_image image ≡ true) where
     -- else an access whose width is none is refused 7, whatever the records hold
-    pub bad_width_lem : core_call k list ≡ none → seen k image list ≡ refuses (refusal 7) image list
+    pub bad_width_lem : core_call k list ≡ None → seen k image list ≡ refuses (refusal 7) image list
     bad_width_lem e = seen-core k image list good ∙ ap (λ (o : Option Call). on_core o image list) e
 
-    module _ (c : Call) (is : core_call k list ≡ some c) where
+    module _ (c : Call) (is : core_call k list ≡ Some c) where
       on_records_lem : seen k image list ≡ on_records c image list
       on_records_lem = seen-core k image list good ∙ ap (λ (o : Option Call). on_core o image list) is
 
@@ -260,11 +259,11 @@ module _ (P : Seen → Type 0) (image list : List ℕ) (refusing : (t : Told) �
       go true e = h e
       go false e = refusing bad_image (omega arith)
 
-  on_option : (o : Option Call) → ((c : Call) → o ≡ some c → good_named c image ≡ true → P (answers c image list)) → P (on_core o image list)
-  on_option (some c) h = on_call c (h c refl)
-  on_option none h = refusing bad_width (omega arith)
+  on_option : (o : Option Call) → ((c : Call) → o ≡ Some c → good_named c image ≡ true → P (answers c image list)) → P (on_core o image list)
+  on_option (Some c) h = on_call c (h c refl)
+  on_option None h = refusing bad_width (omega arith)
 
-  pub seen_either : (k : FaceCall) → ((c : Call) → good_image image ≡ true → core_call k list ≡ some c → good_named c image ≡ true → P (answers c image list)) → P (seen k image list)
+  pub seen_either : (k : FaceCall) → ((c : Call) → good_image image ≡ true → core_call k list ≡ Some c → good_named c image ≡ true → P (answers c image list)) → P (seen k image list)
   seen_either k h = go (good_image image) refl
     where
       go : (b : Bool) → good_image image ≡ b → P (seen k image list)
@@ -298,13 +297,13 @@ refused_image k image list bytes =
     let (ws, e) = is_refused (reply c d).answer h in
     still_image c image bytes good (refused_still d (told (reply c d).answer).number ws c e (λ o x v places z. written ((told (reply c d).answer).number ≢ 1) k c is o x v places z n)) fine)
   where
-    written : (A : Type 0) (q : FaceCall) (c : Call) → core_call q list ≡ some c → (o : ℕ) (x : AccessWidth) (v places : ℕ) → c ≡ Call.write o x v places
+    written : (A : Type 0) (q : FaceCall) (c : Call) → core_call q list ≡ Some c → (o : ℕ) (x : AccessWidth) (v places : ℕ) → c ≡ Call.write o x v places
         → ((offset w u : ℕ) → q ≡ write offset w u → A) → A
-    written A (read offset w) c is o x v places z n = go (width_answer w) is
+    written A (read offset w) c is o x v places z n = go (width_of w) is
       where
-        go : {B : Type 0} (a : WidthAnswer) → with_width a (λ y. Call.read offset y) ≡ some c → B
-        go (Of y) e = let zero : ◌≡◌ {A = ℕ} 0 1 = cc in absurd (omega arith)
-        go No e = let zero : ◌≡◌ {A = ℕ} 0 1 = cc in absurd (omega arith)
+        go : {B : Type 0} (a : Option AccessWidth) → with_width a (λ y. Call.read offset y) ≡ Some c → B
+        go (Some y) e = let zero : ◌≡◌ {A = ℕ} 0 1 = cc in absurd (omega arith)
+        go None e = let zero : ◌≡◌ {A = ℕ} 0 1 = cc in absurd (omega arith)
     written A (write offset w u) c is o x v places z n = n offset w u refl
     written A (host h raw) c is o x v places z n = let zero : ◌≡◌ {A = ℕ} 0 1 = cc in absurd (omega arith)
 
@@ -316,7 +315,7 @@ reads_none offset x d = read_lists d (decode Reading d.config.distributor_size o
 pub read_keeps : (offset w : ℕ) (image list : List ℕ) → Bytes image → ((seen (read offset w) image list).image ≡ image) × ((seen (read offset w) image list).list ≡ list)
 read_keeps offset w image list bytes =
     seen_either (λ s. (s.image ≡ image) × (s.list ≡ list)) image list (λ t h. (refl, refl)) (read offset w)
-    (λ c good is fine. go (width_answer w) c good is fine)
+    (λ c good is fine. go (width_of w) c good is fine)
   where
     same : (x : AccessWidth) → good_image image ≡ true → good_named (Call.read offset x) image ≡ true → (image_after (Call.read offset x) image ≡ image) × (laid (flat 4 (reply (Call.read offset x) (meaning image)).candidates) list ≡ list)
     same x good fine = (
@@ -324,11 +323,11 @@ read_keeps offset w image list bytes =
       ap (λ (cs : List ℕ). laid (flat 4 cs) list) (reads_none offset x (meaning image)),
     )
 
-    go : (a : WidthAnswer) (c : Call) → good_image image ≡ true → with_width a (λ x. Call.read offset x) ≡ some c → good_named c image ≡ true
+    go : (a : Option AccessWidth) (c : Call) → good_image image ≡ true → with_width a (λ x. Call.read offset x) ≡ Some c → good_named c image ≡ true
         → (image_after c image ≡ image) × (laid (flat 4 (reply c (meaning image)).candidates) list ≡ list)
-    go (Of x) c good e fine = let z : Call.read offset x ≡ c = some-injective (Call.read offset x) c e in
+    go (Some x) c good e fine = let z : Call.read offset x ≡ c = same_Some _ _ e in
         subst (λ (q : Call). good_named q image ≡ true → (image_after q image ≡ image) × (laid (flat 4 (reply q (meaning image)).candidates) list ≡ list)) z (same x good) fine
-    go No c good e fine = absurd (none-ne-some c e)
+    go None c good e fine = cc
 
 -- ---- the list that a write is lent
 
@@ -346,7 +345,7 @@ module _ (offset w v : ℕ) (image list : List ℕ) where
       seen_either Filled image list
       (λ t h. record { candidates = []; fit = omega arith; laid_out = refl; count = λ e. absurd (omega arith) })
       (write offset w v)
-      (λ c good is fine. go (width_answer w) c is)
+      (λ c good is fine. go (width_of w) c is)
     where
       filled : (x : AccessWidth) → Filled (answers (Call.write offset x v (length list / 4)) image list)
       filled x =
@@ -359,9 +358,9 @@ module _ (offset w v : ℕ) (image list : List ℕ) where
           number r e (turned_down n ws) z = let h = core-refusal (Call.write offset x v (length list / 4)) (meaning image) n ws (ap (λ (y : Reply). y.answer) e) in absurd (omega arith)
           number r e (listed cs h) z = refl
 
-      go : (a : WidthAnswer) (c : Call) → with_width a (λ x. Call.write offset x v (length list / 4)) ≡ some c → Filled (answers c image list)
-      go (Of x) c e = subst (λ (q : Call). Filled (answers q image list)) (some-injective (Call.write offset x v (length list / 4)) c e) (filled x)
-      go No c e = absurd (none-ne-some c e)
+      go : (a : Option AccessWidth) (c : Call) → with_width a (λ x. Call.write offset x v (length list / 4)) ≡ Some c → Filled (answers c image list)
+      go (Some x) c e = subst (λ (q : Call). Filled (answers q image list)) (same_Some _ _ e) (filled x)
+      go None c e = cc
 
   fits : length (flat 4 list_filled.candidates) ≤ length list
   fits = let h = list_filled.fit in rw (length-flat 4 list_filled.candidates) (omega arith)

@@ -1,5 +1,5 @@
 -- What the face promises. For any bytes, lengths and numbers: what a call tells, and every byte of the image and of the list.
-use Rattle.std.specs.Prelude.{ℕ, zero, suc, ◌+◌, ◌-◌, ◌/◌, Bool, true, not, ◌&&◌, ◌||◌, cond, List, ◌++◌, length}
+use Rattle.std.specs.Prelude.{ℕ, zero, suc, ◌+◌, ◌-◌, ◌/◌, Bool, true, not, ◌&&◌, ◌||◌, cond, List, ◌++◌, length, Option, Some, None}
 use Rattle.theory.specs.Lists.{tabulate, laid}
 use Rattle.registers.specs.declared.register.AccessWidth.{AccessWidth}
 use Rattle.changes.specs.declared.change.Change.{Change}
@@ -11,9 +11,8 @@ use Rattle.image.specs.Kept.{good_word, word_of}
 use Rattle.image.specs.Header.{good_image, header_words}
 use Rattle.image.specs.Meaning.{record_at, meaning}
 use Rattle.image_model.specs.declared.told.Told.{Told}
-use Rattle.image_model.specs.declared.told.WidthAnswer.{WidthAnswer}
-use Rattle.image_model.specs.declared.told.WidthAnswer.TheVariants.{Of, No}
-use Rattle.image_model.specs.Told.{told, bad_image, bad_width, width_answer}
+use Rattle.image_model.specs.Told.{told, bad_image, bad_width}
+use Rattle.registers.specs.Registers.{width_of}
 
 -- a call on an image. Numbers are as handed over: a width may be any
 pub data FaceCall : Type 0 where
@@ -71,13 +70,13 @@ abbrev pub on_records : Call → List ℕ → List ℕ → Seen
 on_records c image list = cond (good_named c image) (answers c image list) (refuses bad_image image list)
 
 -- refused 7 where the width is none
-abbrev pub on_width : WidthAnswer → (AccessWidth → Call) → List ℕ → List ℕ → Seen
-on_width (Of w) c image list = on_records (c w) image list
-on_width No c image list = refuses bad_width image list
+abbrev pub on_width : Option AccessWidth → (AccessWidth → Call) → List ℕ → List ℕ → Seen
+on_width (Some w) c image list = on_records (c w) image list
+on_width None c image list = refuses bad_width image list
 
 abbrev pub on_good : FaceCall → List ℕ → List ℕ → Seen
-on_good (read offset w) image list = on_width (width_answer w) (λ x. Call.read offset x) image list
-on_good (write offset w v) image list = on_width (width_answer w) (λ x. Call.write offset x v (length list / 4)) image list
+on_good (read offset w) image list = on_width (width_of w) (λ x. Call.read offset x) image list
+on_good (write offset w v) image list = on_width (width_of w) (λ x. Call.write offset x v (length list / 4)) image list
 on_good (host h raw) image list = on_records (Call.change h raw) image list
 
 -- refused 6 first, for the image's length and header

@@ -1,6 +1,6 @@
 -- Calls one after another, and the calls of the core that they are.
-use Rattle.std.specs.Prelude.{ℕ, ◌≡◌, Bool, false, List, [], ◌∷◌, ◌++◌}
-use Rattle.std.proofs.Math.Option.{Option, none, some}
+use Rattle.std.specs.Prelude.{ℕ, ◌≡◌, Bool, false, List, [], ◌∷◌, ◌++◌, Option, Some, None}
+use Rattle.std.proofs.Math.Option.{some}
 use Rattle.std.proofs.Math.ListN.{get_elem?}
 use Rattle.theory.specs.Lists.{laid}
 use Rattle.controller.specs.declared.controller.ControllerConfig.{ControllerConfig}
@@ -40,16 +40,16 @@ AllTyped rs = (j : ℕ) (r : Request) → get_elem? rs j ≡ some r → TypedReq
 -- ---- the same of the core: a call whose width is none is no call of the core, and names nothing
 
 abbrev pub on_call : Option Call → Distributor → Distributor
-on_call none d = d
-on_call (some c) d = step c d
+on_call None d = d
+on_call (Some c) d = step c d
 
 abbrev pub heard_on : Option Call → List ℕ → Distributor → Heard
-heard_on none list d = record { told = bad_width; list = list }
-heard_on (some c) list d = record { told = told (reply c d).answer; list = laid (flat 4 (reply c d).candidates) list }
+heard_on None list d = record { told = bad_width; list = list }
+heard_on (Some c) list d = record { told = told (reply c d).answer; list = laid (flat 4 (reply c d).candidates) list }
 
 abbrev pub named_on : ControllerConfig → ℕ → Option Call → Name → Bool
-named_on c n none m = false
-named_on c n (some k) m = names c n k m
+named_on c n None m = false
+named_on c n (Some k) m = names c n k m
 
 abbrev pub core_step : Request → Distributor → Distributor
 core_step r d = on_call (core_call r.call r.list) d
@@ -62,8 +62,8 @@ abbrev pub request_names : ControllerConfig → ℕ → Request → Name → Boo
 request_names c n r m = named_on c n (core_call r.call r.list) m
 
 abbrev pub calls : Option Call → List Call
-calls none = []
-calls (some c) = c ∷ []
+calls None = []
+calls (Some c) = c ∷ []
 
 -- the core's calls that some requests are
 abbrev pub core_calls : List Request → List Call

@@ -1,8 +1,7 @@
 -- The call of the core that a call on an image is, and what is refused before a record is looked at.
-use Rattle.std.specs.Prelude.{ℕ, ◌/◌, ltb, length}
+use Rattle.std.specs.Prelude.{ℕ, ◌/◌, ltb, length, Some, None, Option}
 use Rattle.std.proofs.Math.Bool.{cond}
 use mathlib.Core.List.{List, [], ◌∷◌}
-use Rattle.std.proofs.Math.Option.{Option, none, some}
 use Rattle.identifiers.specs.Answer.{Answer, done, refused}
 use Rattle.place.specs.Table.{in_table}
 use Rattle.registers.specs.declared.register.AccessWidth.{AccessWidth}
@@ -12,25 +11,24 @@ use Rattle.registers.specs.FrameLaws.{needs_another}
 use Rattle.model.specs.Calls.{Distributor, Call, create, is_switched_on, rollback, change, ask, size}
 use Rattle.model.specs.RefusedWhen.{misplaced}
 use Rattle.image_model.specs.declared.told.Told.{Told}
-use Rattle.image_model.specs.declared.told.WidthAnswer.{WidthAnswer}
-use Rattle.image_model.specs.declared.told.WidthAnswer.TheVariants.{Of, No}
-use Rattle.image_model.specs.Told.{bad_width, width_answer}
+use Rattle.image_model.specs.Told.{bad_width}
+use Rattle.registers.specs.Registers.{width_of}
 use Rattle.image_model.specs.Face.{FaceCall, read, write, host, Seen, refuses, on_records}
 
-abbrev pub with_width : WidthAnswer → (AccessWidth → Call) → Option Call
-with_width (Of w) c = some (c w)
-with_width No c = none
+abbrev pub with_width : Option AccessWidth → (AccessWidth → Call) → Option Call
+with_width (Some w) c = Some (c w)
+with_width None c = None
 
 -- with the list that is lent
 abbrev pub core_call : FaceCall → List ℕ → Option Call
-core_call (read offset w) list = with_width (width_answer w) (λ x. Call.read offset x)
-core_call (write offset w v) list = with_width (width_answer w) (λ x. Call.write offset x v (length list / 4))
-core_call (host h raw) list = some (Call.change h raw)
+core_call (read offset w) list = with_width (width_of w) (λ x. Call.read offset x)
+core_call (write offset w v) list = with_width (width_of w) (λ x. Call.write offset x v (length list / 4))
+core_call (host h raw) list = Some (Call.change h raw)
 
 -- what is seen of it, on a good image
 abbrev pub on_core : Option Call → List ℕ → List ℕ → Seen
-on_core (some c) image list = on_records c image list
-on_core none image list = refuses bad_width image list
+on_core (Some c) image list = on_records c image list
+on_core None image list = refuses bad_width image list
 
 -- an access 3 and then 4, a write 5 before both, a host's call 1 where the table has no such SPI
 abbrev pub access_first : Distributor → Direction → ℕ → AccessWidth → Answer

@@ -1,5 +1,5 @@
 -- One interrupt's record: what each operation makes of it.
-use Rattle.std.specs.Prelude.{ℕ, Bool, true, false, cond}
+use Rattle.std.specs.Prelude.{ℕ, Bool, Option, Some, None}
 use Rattle.identifiers.specs.declared.types.IntId.{IntId}
 use Rattle.attributes.specs.declared.attributes.GicAffinity.{GicAffinity}
 use Rattle.attributes.specs.declared.attributes.Priority.{Priority}
@@ -7,22 +7,19 @@ use Rattle.attributes.specs.declared.attributes.TriggerMode.{TriggerMode}
 use Rattle.attributes.specs.declared.attributes.InterruptState.{InterruptState}
 use Rattle.life.specs.declared.life.Life.{Life}
 use Rattle.interrupt.specs.declared.interrupt.InterruptRecord.{InterruptRecord}
-use Rattle.interrupt.specs.declared.interrupt.Route.{Route}
-use Rattle.interrupt.specs.declared.interrupt.TargetMask.{TargetMask}
-use Rattle.attributes.specs.Affinity.{affinity}
 use Rattle.attributes.specs.States.{level_of, pending_of, active_of, state_of}
 use Rattle.identifiers.specs.Answer.{sgi}
 use Rattle.life.specs.Life.{born, level_to, pulsed, synchronized, deliverable}
 
 -- a new interrupt: enabled where it is an SGI, its priority 0x80, with no route and no target mask; nothing has happened to it
 unfoldable pub fresh : IntId → TriggerMode → InterruptRecord
-fresh i t = record { intid = i; life = born (sgi i); priority = record { 0 = 0x80 }; trigger = t; routed = false; route = affinity 0 0 0 0; masked = false; cpu_target_mask = 0 }
+fresh i t = record { intid = i; life = born (sgi i); priority = record { 0 = 0x80 }; trigger = t; route = None; cpu_target_mask = None }
 
 -- ---- its life
 
 -- the record with its flags at other values
 unfoldable pub with_life : Life → InterruptRecord → InterruptRecord
-with_life l r = record { intid = r.intid; life = l; priority = r.priority; trigger = r.trigger; routed = r.routed; route = r.route; masked = r.masked; cpu_target_mask = r.cpu_target_mask }
+with_life l r = record { intid = r.intid; life = l; priority = r.priority; trigger = r.trigger; route = r.route; cpu_target_mask = r.cpu_target_mask }
 
 abbrev pub is_level : InterruptRecord → Bool
 is_level r = level_of r.trigger
@@ -47,50 +44,33 @@ synchronized_with s r = with_life (synchronized (pending_of s) (active_of s) r.l
 -- ---- its settings
 
 -- the record with its settings at these values: priority, trigger, route, target mask
-abbrev pub settings : Priority → TriggerMode → Bool → GicAffinity → Bool → ℕ → InterruptRecord → InterruptRecord
-settings p t routed route masked mask r = record { intid = r.intid; life = r.life; priority = p; trigger = t; routed = routed; route = route; masked = masked; cpu_target_mask = mask }
+abbrev pub settings : Priority → TriggerMode → Option GicAffinity → Option ℕ → InterruptRecord → InterruptRecord
+settings p t route mask r = record { intid = r.intid; life = r.life; priority = p; trigger = t; route = route; cpu_target_mask = mask }
 
 unfoldable pub priority_to : Priority → InterruptRecord → InterruptRecord
-priority_to p r = settings p r.trigger r.routed r.route r.masked r.cpu_target_mask r
+priority_to p r = settings p r.trigger r.route r.cpu_target_mask r
 
 unfoldable pub trigger_to : TriggerMode → InterruptRecord → InterruptRecord
-trigger_to t r = settings r.priority t r.routed r.route r.masked r.cpu_target_mask r
+trigger_to t r = settings r.priority t r.route r.cpu_target_mask r
 
--- an interrupt has a route, or a target mask, or neither: setting one drops the other, and what is absent is 0
+-- an interrupt has a route, or a target mask, or neither: setting one drops the other
 unfoldable pub route_to : GicAffinity → InterruptRecord → InterruptRecord
-route_to a r = settings r.priority r.trigger true a false 0 r
+route_to a r = settings r.priority r.trigger (Some a) None r
 
 unfoldable pub unrouted : InterruptRecord → InterruptRecord
-unrouted r = settings r.priority r.trigger false (affinity 0 0 0 0) r.masked r.cpu_target_mask r
+unrouted r = settings r.priority r.trigger None r.cpu_target_mask r
 
 unfoldable pub mask_to : ℕ → InterruptRecord → InterruptRecord
-mask_to m r = settings r.priority r.trigger false (affinity 0 0 0 0) true m r
+mask_to m r = settings r.priority r.trigger None (Some m) r
 
-unfoldable pub route_in : InterruptRecord → Route
-route_in r = cond r.routed (Route.To r.route) Route.Unset
+unfoldable pub route_in : InterruptRecord → Option GicAffinity
+route_in r = r.route
 
-unfoldable pub mask_in : InterruptRecord → TargetMask
-mask_in r = cond r.masked (TargetMask.Cores r.cpu_target_mask) TargetMask.Unset
+unfoldable pub mask_in : InterruptRecord → Option ℕ
+mask_in r = r.cpu_target_mask
 
 -- ---- a record made from its parts
 
--- whether a route is present, and its affinity, which is 0 where it is absent; a target mask likewise
-abbrev pub route_set : Route → Bool
-route_set (Route.To a) = true
-route_set Route.Unset = false
-
-abbrev pub route_held : Route → GicAffinity
-route_held (Route.To a) = a
-route_held Route.Unset = affinity 0 0 0 0
-
-abbrev pub mask_set : TargetMask → Bool
-mask_set (TargetMask.Cores m) = true
-mask_set TargetMask.Unset = false
-
-abbrev pub mask_held : TargetMask → ℕ
-mask_held (TargetMask.Cores m) = m
-mask_held TargetMask.Unset = 0
-
 -- a record that was kept elsewhere
-unfoldable pub restored : IntId → Life → Priority → TriggerMode → Route → TargetMask → InterruptRecord
-restored i l p t route mask = record { intid = i; life = l; priority = p; trigger = t; routed = route_set route; route = route_held route; masked = mask_set mask; cpu_target_mask = mask_held mask }
+unfoldable pub restored : IntId → Life → Priority → TriggerMode → Option GicAffinity → Option ℕ → InterruptRecord
+restored i l p t route mask = record { intid = i; life = l; priority = p; trigger = t; route = route; cpu_target_mask = mask }

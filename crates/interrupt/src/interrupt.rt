@@ -1,85 +1,27 @@
 // One interrupt's record: what is known of it, and all that can happen to it. Each operation takes the record and hands back
-// the new one. What happens to its flags is said in `life`. A record that has no route holds the affinity 0.0.0.0, and one that
-// has no target mask the mask 0, so that two records that mean the same are equal.
+// the new one. What happens to its flags is said in `life`.
 ghost use Rattle.std.specs.Prelude.{◌≡◌, false};
 ghost use Rattle.attributes.specs.States.{pending_of, active_of};
 ghost use Rattle.life.specs.Life.{enabled_to, pending_to, active_to, state_to, has_delivery, cleared, taken, cancelled, deactivated, completed};
-ghost use Rattle.interrupt.specs.Records.{fresh, restored, route_set, route_held, mask_set, mask_held, with_life, is_level, state_in, synchronized_with, priority_to, trigger_to, route_in, route_to, unrouted, mask_in, mask_to, line_to, line_pulsed, deliverable_in};
+ghost use Rattle.interrupt.specs.Records.{fresh, restored, with_life, is_level, state_in, synchronized_with, priority_to, trigger_to, route_in, route_to, unrouted, mask_in, mask_to, line_to, line_pulsed, deliverable_in};
 
 use attributes::attributes::{GicAffinity, InterruptState, Priority, TriggerMode};
 use identifiers::types::IntId;
 use life::life::Life;
 
-#[derive(Clone, Copy)]
+#[derive(Clone, Copy, Debug, PartialEq, Eq)]
 pub struct InterruptRecord {
     intid: IntId,
     life: Life,
     priority: Priority,
     trigger: TriggerMode,
-    // Whether there is a route, and the route.
-    routed: bool,
-    route: GicAffinity,
-    // Whether there is a target mask, and the mask.
-    masked: bool,
-    cpu_target_mask: u8,
-}
-
-// The record's route, if it has one.
-#[derive(Clone, Copy)]
-pub enum Route {
-    To(GicAffinity),
-    Unset,
-}
-
-// The record's target mask, if it has one.
-#[derive(Clone, Copy)]
-pub enum TargetMask {
-    Cores(u8),
-    Unset,
-}
-
-impl Route {
-    fn is_set(self) -> bool
-        ensures { result ≡ route_set self }
-    {
-        match self {
-            Route::To(_) => true,
-            Route::Unset => false,
-        }
-    }
-
-    fn affinity(self) -> GicAffinity
-        ensures { result ≡ route_held self }
-    {
-        match self {
-            Route::To(affinity) => affinity,
-            Route::Unset => GicAffinity::new(0, 0, 0, 0),
-        }
-    }
-}
-
-impl TargetMask {
-    fn is_set(self) -> bool
-        ensures { result ≡ mask_set self }
-    {
-        match self {
-            TargetMask::Cores(_) => true,
-            TargetMask::Unset => false,
-        }
-    }
-
-    fn cores(self) -> u8
-        ensures { result ≡ mask_held self }
-    {
-        match self {
-            TargetMask::Cores(mask) => mask,
-            TargetMask::Unset => 0,
-        }
-    }
+    // A route, or a target mask, or neither.
+    route: Option<GicAffinity>,
+    cpu_target_mask: Option<u8>,
 }
 
 // The record after a synchronisation, and the merged state.
-#[derive(Clone, Copy)]
+#[derive(Clone, Copy, Debug, PartialEq, Eq)]
 pub struct Synchronized {
     pub interrupt: InterruptRecord,
     pub state: InterruptState,
@@ -90,16 +32,13 @@ impl InterruptRecord {
     pub fn new(intid: IntId, trigger: TriggerMode) -> Self
         ensures { result ≡ fresh intid trigger }
     {
-        let priority = Priority::DEFAULT;
         InterruptRecord {
-            intid: intid,
+            intid,
             life: Life::new(intid.is_sgi()),
-            priority: priority,
-            trigger: trigger,
-            routed: false,
-            route: GicAffinity::new(0, 0, 0, 0),
-            masked: false,
-            cpu_target_mask: 0,
+            priority: Priority::DEFAULT,
+            trigger,
+            route: None,
+            cpu_target_mask: None,
         }
     }
 
@@ -109,21 +48,18 @@ impl InterruptRecord {
         life: Life,
         priority: Priority,
         trigger: TriggerMode,
-        route: Route,
-        mask: TargetMask,
+        route: Option<GicAffinity>,
+        cpu_target_mask: Option<u8>,
     ) -> Self
-        ensures { result ≡ restored intid life priority trigger route mask }
+        ensures { result ≡ restored intid life priority trigger route cpu_target_mask }
     {
-        let affinity = route.affinity();
         InterruptRecord {
-            intid: intid,
-            life: life,
-            priority: priority,
-            trigger: trigger,
-            routed: route.is_set(),
-            route: affinity,
-            masked: mask.is_set(),
-            cpu_target_mask: mask.cores(),
+            intid,
+            life,
+            priority,
+            trigger,
+            route,
+            cpu_target_mask,
         }
     }
 
@@ -240,10 +176,9 @@ impl InterruptRecord {
     pub fn deactivate_inflight(mut self, pending_in_delivery: bool) -> Self
         ensures { result ≡ with_life (deactivated (is_level self) pending_in_delivery self.life) self }
     {
-        let trigger = self.trigger;
         self.life = self
             .life
-            .deactivate_inflight(trigger.is_level(), pending_in_delivery);
+            .deactivate_inflight(self.trigger.is_level(), pending_in_delivery);
         self
     }
 
@@ -266,78 +201,52 @@ impl InterruptRecord {
         self.trigger
     }
 
-    pub fn set_trigger(self, trigger: TriggerMode) -> Self
+    pub fn set_trigger(mut self, trigger: TriggerMode) -> Self
         ensures { result ≡ trigger_to trigger self }
     {
-        let intid = self.intid;
-        let life = self.life;
-        let priority = self.priority;
-        let route = self.route;
-        InterruptRecord {
-            intid: intid,
-            life: life,
-            priority: priority,
-            trigger: trigger,
-            routed: self.routed,
-            route: route,
-            masked: self.masked,
-            cpu_target_mask: self.cpu_target_mask,
-        }
+        self.trigger = trigger;
+        self
     }
 
-    pub fn route(self) -> Route
+    pub fn route(self) -> Option<GicAffinity>
         ensures { result ≡ route_in self }
     {
-        let route = self.route;
-        if self.routed {
-            Route::To(route)
-        } else {
-            Route::Unset
-        }
+        self.route
     }
 
     pub fn set_route(mut self, route: GicAffinity) -> Self
         ensures { result ≡ route_to route self }
     {
-        self.routed = true;
-        self.route = route;
-        self.masked = false;
-        self.cpu_target_mask = 0;
+        self.route = Some(route);
+        self.cpu_target_mask = None;
         self
     }
 
     pub fn clear_route(mut self) -> Self
         ensures { result ≡ unrouted self }
     {
-        self.routed = false;
-        self.route = GicAffinity::new(0, 0, 0, 0);
+        self.route = None;
         self
     }
 
-    pub fn cpu_target_mask(self) -> TargetMask
+    pub fn cpu_target_mask(self) -> Option<u8>
         ensures { result ≡ mask_in self }
     {
-        if self.masked {
-            TargetMask::Cores(self.cpu_target_mask)
-        } else {
-            TargetMask::Unset
-        }
+        self.cpu_target_mask
     }
 
     pub fn set_cpu_target_mask(mut self, mask: u8) -> Self
         ensures { result ≡ mask_to mask self }
     {
-        self = self.clear_route();
-        self.masked = true;
-        self.cpu_target_mask = mask;
+        self.route = None;
+        self.cpu_target_mask = Some(mask);
         self
     }
 
     pub fn set_level(mut self, asserted: bool) -> Self
         ensures { result ≡ line_to asserted self }
     {
-        let trigger = self.trigger;
-        self.life = self.life.set_level(trigger.is_level(), asserted);
+        self.life = self.life.set_level(self.trigger.is_level(), asserted);
         self
     }
 
@@ -351,8 +260,7 @@ impl InterruptRecord {
     pub fn complete(mut self) -> Self
         ensures { result ≡ with_life (completed (is_level self) self.life) self }
     {
-        let trigger = self.trigger;
-        self.life = self.life.complete(trigger.is_level());
+        self.life = self.life.complete(self.trigger.is_level());
         self
     }
 

@@ -9,29 +9,25 @@ use interrupt::interrupt::InterruptRecord;
 pub fn set_level_in_place(r: &mut InterruptRecord, asserted: bool)
     ensures { r.new ≡ line_to asserted r.old }
 {
-    let old = *r;
-    *r = old.set_level(asserted);
+    *r = r.set_level(asserted);
 }
 
 pub fn pulse_in_place(r: &mut InterruptRecord)
     ensures { r.new ≡ line_pulsed r.old }
 {
-    let old = *r;
-    *r = old.pulse();
+    *r = r.pulse();
 }
 
-pub fn set_level_lent(interrupt: InterruptRecord, asserted: bool) -> InterruptRecord
+pub fn set_level_lent(mut interrupt: InterruptRecord, asserted: bool) -> InterruptRecord
     ensures { result ≡ line_to asserted interrupt }
 {
-    let mut lent = interrupt;
-    set_level_in_place(&mut lent, asserted);
-    lent
+    set_level_in_place(&mut interrupt, asserted);
+    interrupt
 }
 
-pub fn pulse_lent(interrupt: InterruptRecord) -> InterruptRecord
+pub fn pulse_lent(mut interrupt: InterruptRecord) -> InterruptRecord
     ensures { result ≡ line_pulsed interrupt }
 {
-    let mut lent = interrupt;
-    pulse_in_place(&mut lent);
-    lent
+    pulse_in_place(&mut interrupt);
+    interrupt
 }

@@ -3,7 +3,7 @@
 ghost use Rattle.std.specs.Prelude.{◌≡◌};
 ghost use Rattle.life.specs.Life.{born, enabled_to, pending_to, active_to, state_to, has_delivery, cleared, taken, synchronized, cancelled, deactivated, level_to, pulsed, completed, deliverable};
 
-#[derive(Clone, Copy)]
+#[derive(Clone, Copy, Debug, PartialEq, Eq)]
 pub struct Life {
     pub enabled: bool,
     pub pending: bool,
@@ -21,7 +21,7 @@ impl Life {
         ensures { result ≡ born enabled }
     {
         Life {
-            enabled: enabled,
+            enabled,
             pending: false,
             active: false,
             inflight: false,

@@ -1,5 +1,5 @@
 -- Every call on a Distributor: what it does to each slot and to the switch, and what it answers.
-use Rattle.std.specs.Prelude.{ℕ, ◌+◌, Bool, false, ◌&&◌, cond, List, [], ◌∷◌, eqb, length, get_or}
+use Rattle.std.specs.Prelude.{ℕ, ◌+◌, Bool, false, ◌&&◌, cond, List, [], ◌∷◌, eqb, length, get_or, Ok, Err}
 use Rattle.theory.specs.Lists.{map_at, tabulate, laid, passing}
 use Rattle.identifiers.specs.Answer.{Answer, done, refused, told_refusal, unless}
 use Rattle.interrupt.specs.Records.{deliverable_in}
@@ -10,8 +10,6 @@ use Rattle.controller.specs.Identity.{component_id, iidr_value, switch_bit, ctlr
 use Rattle.bank.specs.Banks.{bit}
 use Rattle.registers.specs.declared.register.AccessWidth.{AccessWidth}
 use Rattle.registers.specs.declared.register.Register.TheVariants.{Identification, Ctlr, Typer, Iidr, Fields, Reserved}
-use Rattle.registers.specs.declared.register.Access.{Access}
-use Rattle.registers.specs.declared.register.Access.TheVariants.{To, Refused}
 use Rattle.registers.specs.declared.register.Direction.TheVariants.{Reading}
 use Rattle.decoding.specs.Decoding.{decode, write_access}
 use Rattle.slot.specs.declared.slot.Slot.{Slot}
@@ -21,6 +19,7 @@ use Rattle.changes.specs.declared.change.Change.{Change}
 use Rattle.spi.specs.declared.question.Question.{Question}
 use Rattle.spi.specs.ChangeAnswers.{change_answer}
 use Rattle.spi.specs.Questions.{value_of, told_value}
+use Rattle.registers.specs.Registers.{Access}
 
 -- a Distributor: its settings, the master switch, how many SPIs it was made for, and their slots, INTID 32's first
 pub record Distributor : Type 0 where
@@ -80,13 +79,13 @@ created c n = record { config = c; switch = false; count = n; slots = tabulate (
 module _ (c : ControllerConfig) (n : ℕ) where
   -- a guest write, as it reaches the slot of INTID i
   abbrev pub written_at : Access → ℕ → ℕ → Slot → Slot
-  written_at (Refused f) v i s = s
-  written_at (To (Identification k)) v i s = s
-  written_at (To Ctlr) v i s = s
-  written_at (To Typer) v i s = s
-  written_at (To Iidr) v i s = s
-  written_at (To (Fields b lo m)) v i s = bank_slot (explicit c.spi_ownership) n b v lo m i s
-  written_at (To Reserved) v i s = s
+  written_at (Err f) v i s = s
+  written_at (Ok (Identification k)) v i s = s
+  written_at (Ok Ctlr) v i s = s
+  written_at (Ok Typer) v i s = s
+  written_at (Ok Iidr) v i s = s
+  written_at (Ok (Fields b lo m)) v i s = bank_slot (explicit c.spi_ownership) n b v lo m i s
+  written_at (Ok Reserved) v i s = s
 
   -- a host's change of the SPI raw, and of no other
   abbrev pub changed_at : Change → ℕ → ℕ → Slot → Slot
@@ -103,13 +102,13 @@ module _ (c : ControllerConfig) (n : ℕ) where
   slot_after (ask q raw) i s = s
 
   abbrev pub switched : Access → ℕ → Bool → Bool
-  switched (Refused f) v on = on
-  switched (To (Identification k)) v on = on
-  switched (To Ctlr) v on = switch_bit v
-  switched (To Typer) v on = on
-  switched (To Iidr) v on = on
-  switched (To (Fields b lo m)) v on = on
-  switched (To Reserved) v on = on
+  switched (Err f) v on = on
+  switched (Ok (Identification k)) v on = on
+  switched (Ok Ctlr) v on = switch_bit v
+  switched (Ok Typer) v on = on
+  switched (Ok Iidr) v on = on
+  switched (Ok (Fields b lo m)) v on = on
+  switched (Ok Reserved) v on = on
 
   -- the switch after a call
   abbrev pub switch_after : Call → Bool → Bool
@@ -141,31 +140,31 @@ module _ (d : Distributor) where
   on_spi raw f = plain (cond (in_table (size d) raw) (f (slot_of d.slots raw)) (refused 1 (raw ∷ [])))
 
   abbrev pub read_reply : Access → Reply
-  read_reply (Refused f) = plain (told_refusal f)
-  read_reply (To (Identification k)) = plain (done (get_or component_id k 0 ∷ []))
-  read_reply (To Ctlr) = plain (done (ctlr_value d.switch ∷ []))
-  read_reply (To Typer) = plain (done (typer_value d.config (size d) ∷ []))
-  read_reply (To Iidr) = plain (done (iidr_value ∷ []))
-  read_reply (To (Fields b lo m)) =
+  read_reply (Err f) = plain (told_refusal f)
+  read_reply (Ok (Identification k)) = plain (done (get_or component_id k 0 ∷ []))
+  read_reply (Ok Ctlr) = plain (done (ctlr_value d.switch ∷ []))
+  read_reply (Ok Typer) = plain (done (typer_value d.config (size d) ∷ []))
+  read_reply (Ok Iidr) = plain (done (iidr_value ∷ []))
+  read_reply (Ok (Fields b lo m)) =
       plain
       (unless (read_beyond (explicit d.config.spi_ownership) (size d) b lo m)
       (done (bank_value (explicit d.config.spi_ownership) (size d) b lo m d.slots ∷ [])))
-  read_reply (To Reserved) = plain (done (0 ∷ []))
+  read_reply (Ok Reserved) = plain (done (0 ∷ []))
 
   -- turned on, the switch lists every deliverable SPI, owned or not, by the base's rule
   abbrev pub switch_candidates : ℕ → List ℕ
   switch_candidates v = cond (switch_bit v) (passing (deliverable_at d.slots) 32 (size d)) []
 
   abbrev pub write_reply : Access → ℕ → Reply
-  write_reply (Refused f) v = plain (told_refusal f)
-  write_reply (To (Identification k)) v = listing []
-  write_reply (To Ctlr) v = listing (switch_candidates v)
-  write_reply (To Typer) v = listing []
-  write_reply (To Iidr) v = listing []
-  write_reply (To (Fields b lo m)) v =
+  write_reply (Err f) v = plain (told_refusal f)
+  write_reply (Ok (Identification k)) v = listing []
+  write_reply (Ok Ctlr) v = listing (switch_candidates v)
+  write_reply (Ok Typer) v = listing []
+  write_reply (Ok Iidr) v = listing []
+  write_reply (Ok (Fields b lo m)) v =
       listing_unless (write_beyond (explicit d.config.spi_ownership) (size d) b v lo m)
       (bank_candidates (explicit d.config.spi_ownership) (size d) b v lo m d.slots)
-  write_reply (To Reserved) v = listing []
+  write_reply (Ok Reserved) v = listing []
 
 unfoldable pub reply : Call → Distributor → Reply
 reply (create c n) d = plain (create_answer n)

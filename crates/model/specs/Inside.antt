@@ -1,6 +1,6 @@
 -- A write that runs beyond the table has done its work inside it: it leaves the state of the same write without what lies beyond. Of
 -- every bank, and wherever it is refused.
-use Rattle.std.specs.Prelude.{ℕ, ◌+◌, ◌-◌, ◌*◌, ◌/◌, ◌%◌, ◌^◌, ◌≤◌, ◌<◌, min, ◌≡◌, refl, Bool, true, false, ◌&&◌, cond, List, [], leb, ltb}
+use Rattle.std.specs.Prelude.{ℕ, ◌+◌, ◌-◌, ◌*◌, ◌/◌, ◌%◌, ◌^◌, ◌≤◌, ◌<◌, min, ◌≡◌, refl, Bool, true, false, ◌&&◌, cond, List, [], leb, ltb, Ok, Err}
 use Rattle.std.proofs.Common.{sym, ap, ◌∙◌, mod-lt, mul-le-mul_left, arith, leb-true, lt-ltb, le-ltb, pow_mono, pow_pos}
 use Rattle.std.proofs.Math.Bool.{and-false}
 use Rattle.std.proofs.Math.Logic.{by_cases}
@@ -21,8 +21,6 @@ use Rattle.bank.specs.FieldLaws.{pow-pow}
 use Rattle.registers.specs.declared.register.AccessWidth.{AccessWidth}
 use Rattle.registers.specs.declared.register.Direction.TheVariants.{Writing}
 use Rattle.registers.specs.declared.register.Register.TheVariants.{Identification, Ctlr, Typer, Iidr, Fields, Reserved}
-use Rattle.registers.specs.declared.register.Access.{Access}
-use Rattle.registers.specs.declared.register.Access.TheVariants.{To, Refused}
 use Rattle.registers.specs.FrameLaws.{needs_another}
 use Rattle.registers.specs.FrameMap.{register_there}
 use Rattle.decoding.specs.Decoding.{write_access}
@@ -31,6 +29,7 @@ use Rattle.slot.specs.BankRule.{covers, bank_slot, bank_candidates, write_beyond
 use Rattle.model.specs.Calls.{Distributor, write, size, step, after_write, listing, listing_unless, write_reply, reply}
 use Rattle.model.specs.WriteLaws.{field_cut}
 use Rattle.model.specs.RefusedWhen.{misplaced, reached_at, decoded_at}
+use Rattle.registers.specs.Registers.{Access}
 
 -- of m fields from INTID lo on, those below the table's end
 abbrev pub inside : Distributor → ℕ → ℕ → ℕ
@@ -68,17 +67,17 @@ module _ (d : Distributor) (b : Bank) (v lo m : ℕ) where
   not_beyond : (i : ℕ) → i < 32 + n → beyond_table e n i ≡ false
   not_beyond i below = let z : leb (32 + n) i ≡ false = lt-leb (32 + n) i below in rw z (and-false e)
 
-  slots_same : (v' m' : ℕ) → ((p : ℕ) (s : Slot) → bank_slot e n b v lo m (32 + p) s ≡ bank_slot e n b v' lo m' (32 + p) s) → after_write d (To (Fields b lo m)) v ≡ after_write d (To (Fields b lo m')) v'
+  slots_same : (v' m' : ℕ) → ((p : ℕ) (s : Slot) → bank_slot e n b v lo m (32 + p) s ≡ bank_slot e n b v' lo m' (32 + p) s) → after_write d (Ok (Fields b lo m)) v ≡ after_write d (Ok (Fields b lo m')) v'
   slots_same v' m' h =
       ap (λ (l : List Slot). record { config = d.config; switch = d.switch; count = d.count; slots = l })
       (map_at_same (λ p. bank_slot e n b v lo m (32 + p)) (λ p. bank_slot e n b v' lo m' (32 + p)) d.slots h)
 
   -- the state is that of the access to the fields inside alone
-  pub work_inside : after_write d (To (Fields b lo m)) v ≡ after_write d (To (Fields b lo (inside d lo m))) v
+  pub work_inside : after_write d (Ok (Fields b lo m)) v ≡ after_write d (Ok (Fields b lo (inside d lo m))) v
   work_inside = slots_same v (inside d lo m) (λ p s. let z = covers-inside (32 + p) in rw z)
 
   -- which is not refused
-  pub inside-granted : write_reply d (To (Fields b lo (inside d lo m))) v ≡ listing (bank_candidates e n b v lo (inside d lo m) d.slots)
+  pub inside-granted : write_reply d (Ok (Fields b lo (inside d lo m))) v ≡ listing (bank_candidates e n b v lo (inside d lo m) d.slots)
   inside-granted = ap (λ (l : List ℕ). listing_unless l (bank_candidates e n b v lo (inside d lo m) d.slots)) none
     where
       none : write_beyond e n b v lo (inside d lo m) ≡ []
@@ -88,7 +87,7 @@ module _ (d : Distributor) (b : Bank) (v lo m : ℕ) where
           ∙ passing_never (λ i. false) lo (inside d lo m) (λ i. refl)
 
   -- and that of the write whose fields beyond the table are 0
-  pub value_inside_lem : after_write d (To (Fields b lo m)) v ≡ after_write d (To (Fields b lo m)) (value_inside d b lo v)
+  pub value_inside_lem : after_write d (Ok (Fields b lo m)) v ≡ after_write d (Ok (Fields b lo m)) (value_inside d b lo v)
   value_inside_lem = slots_same (value_inside d b lo v) m (λ p s. go (32 + p) s (leb lo (32 + p)) (in_table n (32 + p)) refl refl)
     where
       go : (i : ℕ) (s : Slot) (x y : Bool) → leb lo i ≡ x → in_table n i ≡ y → bank_slot e n b v lo m i s ≡ bank_slot e n b (value_inside d b lo v) lo m i s
@@ -97,7 +96,7 @@ module _ (d : Distributor) (b : Bank) (v lo m : ℕ) where
       go i s false y p q = rw p
 
   -- which, in a flag bank, is not refused either: a 0 there does not act
-  pub zeros_granted : write_refuses b 0 ≡ false → write_reply d (To (Fields b lo m)) (value_inside d b lo v) ≡ listing (bank_candidates e n b (value_inside d b lo v) lo m d.slots)
+  pub zeros_granted : write_refuses b 0 ≡ false → write_reply d (Ok (Fields b lo m)) (value_inside d b lo v) ≡ listing (bank_candidates e n b (value_inside d b lo v) lo m d.slots)
   zeros_granted idle = ap (λ (l : List ℕ). listing_unless l (bank_candidates e n b (value_inside d b lo v) lo m d.slots)) none
     where
       past : (i : ℕ) → lo ≤ i → 32 + n ≤ i → field b (value_inside d b lo v) lo i ≡ 0
@@ -122,9 +121,9 @@ pub record DoneInside (d : Distributor) (offset : ℕ) (w : AccessWidth) (v plac
   pub bank : Bank
   pub lo : ℕ
   pub m : ℕ
-  pub reaches : write_access places (size d) d.config.distributor_size offset w ≡ To (Fields bank lo m)
-  pub state : step (write offset w v places) d ≡ after_write d (To (Fields bank lo (inside d lo m))) v
-  pub granted : write_reply d (To (Fields bank lo (inside d lo m))) v ≡ listing (bank_candidates (explicit d.config.spi_ownership) (size d) bank v lo (inside d lo m) d.slots)
+  pub reaches : write_access places (size d) d.config.distributor_size offset w ≡ Ok (Fields bank lo m)
+  pub state : step (write offset w v places) d ≡ after_write d (Ok (Fields bank lo (inside d lo m))) v
+  pub granted : write_reply d (Ok (Fields bank lo (inside d lo m))) v ≡ listing (bank_candidates (explicit d.config.spi_ownership) (size d) bank v lo (inside d lo m) d.slots)
 
 pub refused_inside : (d : Distributor) (offset : ℕ) (w : AccessWidth) (v places : ℕ) (ws : List ℕ) → (reply (write offset w v places) d).answer ≡ refused 1 ws → DoneInside d offset w v places
 unfolding reply step
@@ -133,23 +132,23 @@ refused_inside d offset w v places ws e = go (write_access places (size d) d.con
     other : {A : Type 0} → ◌≡◌ {A = ℕ} 0 1 → A
     other z = absurd (omega arith)
 
-    decoding : write_access places (size d) d.config.distributor_size offset w ≡ cond (ltb places (size d)) (Refused ShortList) (reached_at Writing d.config.distributor_size offset w)
-    decoding = ap (cond (ltb places (size d)) (Refused ShortList)) (decoded_at Writing d.config.distributor_size offset w)
+    decoding : write_access places (size d) d.config.distributor_size offset w ≡ cond (ltb places (size d)) (Err ShortList) (reached_at Writing d.config.distributor_size offset w)
+    decoding = ap (cond (ltb places (size d)) (Err ShortList)) (decoded_at Writing d.config.distributor_size offset w)
 
     -- refusals 5, 3 and 4 come before
-    early : {A : Type 0} (s x y : Bool) (f : Refusal) → cond s (Refused ShortList) (cond x (Refused InvalidAccess) (cond y (Refused InvalidWidth) (To (register_there offset w)))) ≡ Refused f → told_refusal f ≡ refused 1 ws → A
+    early : {A : Type 0} (s x y : Bool) (f : Refusal) → cond s (Err ShortList) (cond x (Err InvalidAccess) (cond y (Err InvalidWidth) (Ok (register_there offset w)))) ≡ Err f → told_refusal f ≡ refused 1 ws → A
     early true x y f p q = other cc
     early false true y f p q = other cc
     early false false true f p q = other cc
     early false false false f p q = other cc
 
     go : (a : Access) → write_access places (size d) d.config.distributor_size offset w ≡ a → (write_reply d a v).answer ≡ refused 1 ws → DoneInside d offset w v places
-    go (Refused f) p q = early (ltb places (size d)) (misplaced d.config.distributor_size offset w) (needs_another Writing offset w) f (sym decoding ∙ p) q
-    go (To (Identification k)) p q = other cc
-    go (To Ctlr) p q = other cc
-    go (To Typer) p q = other cc
-    go (To Iidr) p q = other cc
-    go (To (Fields b lo m)) p q =
+    go (Err f) p q = early (ltb places (size d)) (misplaced d.config.distributor_size offset w) (needs_another Writing offset w) f (sym decoding ∙ p) q
+    go (Ok (Identification k)) p q = other cc
+    go (Ok Ctlr) p q = other cc
+    go (Ok Typer) p q = other cc
+    go (Ok Iidr) p q = other cc
+    go (Ok (Fields b lo m)) p q =
         record {
           bank = b;
           lo = lo;
@@ -158,4 +157,4 @@ refused_inside d offset w v places ws e = go (write_access places (size d) d.con
           state = ap (λ (a : Access). after_write d a v) p ∙ work_inside d b v lo m;
           granted = inside-granted d b v lo m;
         }
-    go (To Reserved) p q = other cc
+    go (Ok Reserved) p q = other cc

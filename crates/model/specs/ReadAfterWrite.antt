@@ -1,6 +1,6 @@
 -- What the guest reads after it wrote: each register against each register, in every state, in both ownership modes, at every width
 -- that is legal.
-use Rattle.std.specs.Prelude.{ℕ, ◌+◌, ◌-◌, ◌*◌, ◌/◌, ◌%◌, ◌<◌, ◌≡◌, refl, Bool, true, false, ◌&&◌, eqb}
+use Rattle.std.specs.Prelude.{ℕ, ◌+◌, ◌-◌, ◌*◌, ◌/◌, ◌%◌, ◌<◌, ◌≡◌, refl, Bool, true, false, ◌&&◌, eqb, Ok}
 use Rattle.std.proofs.Common.{sym, ◌∙◌, pow_pos, mod-lt}
 use Rattle.std.proofs.Math.Path.{ap}
 use Rattle.std.proofs.Math.Bool.{cond, and-false}
@@ -27,8 +27,6 @@ use Rattle.bank.specs.FieldLaws.{packed-field}
 use Rattle.registers.specs.declared.register.AccessWidth.{AccessWidth}
 use Rattle.registers.specs.declared.register.Direction.TheVariants.{Reading}
 use Rattle.registers.specs.declared.register.Register.TheVariants.{Identification, Ctlr, Typer, Iidr, Fields, Reserved}
-use Rattle.registers.specs.declared.register.Access.{Access}
-use Rattle.registers.specs.declared.register.Access.TheVariants.{To}
 use Rattle.decoding.specs.Decoding.{decode, write_access}
 use Rattle.slot.specs.declared.slot.Slot.{Slot}
 use Rattle.slot.specs.Slots.{showing, field_written, field_listed}
@@ -39,11 +37,12 @@ use Rattle.slot.proofs.GuestLaws.{read_after_write, unowned_ignores, listed_exac
 use Rattle.model.specs.Calls.{Distributor, Call, read, write, plain, size, written_at, switched, slot_after, step, after_write, deliverable_at, read_reply, write_reply, reply}
 use Rattle.model.specs.Typed.{Typed}
 use Rattle.model.specs.ReadLaws.{shown_at_fits}
+use Rattle.registers.specs.Registers.{Access}
 
 -- ---- a bank's register after a bank's register
 
 module _ (d : Distributor) (ok : Typed d) (offset : ℕ) (w : AccessWidth) (v places : ℕ) (a : Bank) (lo m : ℕ)
-    (reaches : write_access places (size d) d.config.distributor_size offset w ≡ To (Fields a lo m)) where
+    (reaches : write_access places (size d) d.config.distributor_size offset w ≡ Ok (Fields a lo m)) where
   abbrev e : Bool
   e = explicit d.config.spi_ownership
 
@@ -105,7 +104,7 @@ module _ (d : Distributor) (ok : Typed d) (offset : ℕ) (w : AccessWidth) (v pl
       go i false c = refl
 
   module _ (offset' : ℕ) (w' : AccessWidth) (b : Bank) (lo' m' : ℕ)
-      (shows : decode Reading d.config.distributor_size offset' w' ≡ To (Fields b lo' m')) where
+      (shows : decode Reading d.config.distributor_size offset' w' ≡ Ok (Fields b lo' m')) where
     -- a read that gave x before the write gives x after it, with each field changed as `field_then` says
     pub register_then : (x : ℕ) → (reply (read offset' w') d).answer ≡ done (x ∷ [])
         → (reply (read offset' w') wrote).answer ≡ done (packed b (λ i. field_then b i (field b x lo' i)) lo' m' ∷ [])
@@ -125,10 +124,10 @@ module _ (d : Distributor) (ok : Typed d) (offset : ℕ) (w : AccessWidth) (v pl
 
 -- TYPER, IIDR, the identification registers and what is reserved read the same whatever was called
 pub constants_stay : (k : Call) (d : Distributor)
-    → (read_reply (step k d) (To Typer) ≡ read_reply d (To Typer))
-    × (read_reply (step k d) (To Iidr) ≡ read_reply d (To Iidr))
-    × ((j : ℕ) → read_reply (step k d) (To (Identification j)) ≡ read_reply d (To (Identification j)))
-    × (read_reply (step k d) (To Reserved) ≡ read_reply d (To Reserved))
+    → (read_reply (step k d) (Ok Typer) ≡ read_reply d (Ok Typer))
+    × (read_reply (step k d) (Ok Iidr) ≡ read_reply d (Ok Iidr))
+    × ((j : ℕ) → read_reply (step k d) (Ok (Identification j)) ≡ read_reply d (Ok (Identification j)))
+    × (read_reply (step k d) (Ok Reserved) ≡ read_reply d (Ok Reserved))
 unfolding step
 constants_stay k d = (refl, refl, (λ j. refl), refl)
 
@@ -140,12 +139,12 @@ module _ (d : Distributor) (offset : ℕ) (w : AccessWidth) (v places : ℕ) whe
   then = step (write offset w v places) d
 
   -- CTLR reads bit 1 of what was written to it, with ARE_NS, and no other bit
-  pub ctlr_after_ctlr : at ≡ To Ctlr → read_reply then (To Ctlr) ≡ plain (done ((0x10 + 2 * (v / 2 % 2)) ∷ []))
+  pub ctlr_after_ctlr : at ≡ Ok Ctlr → read_reply then (Ok Ctlr) ≡ plain (done ((0x10 + 2 * (v / 2 % 2)) ∷ []))
   unfolding step
   ctlr_after_ctlr h = rw (h, ctlr_written v)
 
   -- turned on, it lists every SPI of the table that is enabled and pending, owned or not, ascending
-  pub switch_lists : at ≡ To Ctlr → (reply (write offset w v places) d).candidates
+  pub switch_lists : at ≡ Ok Ctlr → (reply (write offset w v places) d).candidates
       ≡ cond (eqb (v / 2 % 2) 1) (passing (λ i. let r = (slot_of d.slots i).interrupt in eqb (shown ISENABLER r) 1 && eqb (shown ISPENDR r) 1) 32 (size d)) []
   unfolding reply
   switch_lists h =
@@ -153,12 +152,12 @@ module _ (d : Distributor) (offset : ℕ) (w : AccessWidth) (v places : ℕ) whe
       ∙ ap (λ (l : List ℕ). cond (eqb (v / 2 % 2) 1) l []) (passing_same (deliverable_at d.slots) _ 32 (size d) (λ i. deliverable-shown (slot_of d.slots i).interrupt))
 
   -- a write to a bank leaves CTLR
-  pub ctlr_after_bank : (b : Bank) (lo m : ℕ) → at ≡ To (Fields b lo m) → read_reply then (To Ctlr) ≡ read_reply d (To Ctlr)
+  pub ctlr_after_bank : (b : Bank) (lo m : ℕ) → at ≡ Ok (Fields b lo m) → read_reply then (Ok Ctlr) ≡ read_reply d (Ok Ctlr)
   unfolding step
   ctlr_after_bank b lo m h = rw h
 
   -- a write to CTLR leaves every bank
-  pub bank_after_ctlr : at ≡ To Ctlr → then.slots ≡ d.slots
+  pub bank_after_ctlr : at ≡ Ok Ctlr → then.slots ≡ d.slots
   unfolding step
   bank_after_ctlr h = ap (λ (x : Access). (after_write d x v).slots) h ∙ map_at_still (λ p s. s) d.slots (λ p s. refl)
 
@@ -169,14 +168,14 @@ module _ (d : Distributor) (offset : ℕ) (w : AccessWidth) (v places : ℕ) whe
       ap (λ (x : Access). after_write d x v) h
       ∙ (let kept = map_at_still (λ p. written_at d.config (size d) a v (32 + p)) d.slots (λ p s. slot (32 + p) s) in λ j. record { config = d.config; switch = on j; count = d.count; slots = kept j })
 
-  pub typer_ignores : at ≡ To Typer → then ≡ d
-  typer_ignores h = ignored (To Typer) h (λ i s. refl) refl
+  pub typer_ignores : at ≡ Ok Typer → then ≡ d
+  typer_ignores h = ignored (Ok Typer) h (λ i s. refl) refl
 
-  pub iidr_ignores : at ≡ To Iidr → then ≡ d
-  iidr_ignores h = ignored (To Iidr) h (λ i s. refl) refl
+  pub iidr_ignores : at ≡ Ok Iidr → then ≡ d
+  iidr_ignores h = ignored (Ok Iidr) h (λ i s. refl) refl
 
-  pub identification_ignores : (j : ℕ) → at ≡ To (Identification j) → then ≡ d
-  identification_ignores j h = ignored (To (Identification j)) h (λ i s. refl) refl
+  pub identification_ignores : (j : ℕ) → at ≡ Ok (Identification j) → then ≡ d
+  identification_ignores j h = ignored (Ok (Identification j)) h (λ i s. refl) refl
 
-  pub reserved_ignores : at ≡ To Reserved → then ≡ d
-  reserved_ignores h = ignored (To Reserved) h (λ i s. refl) refl
+  pub reserved_ignores : at ≡ Ok Reserved → then ≡ d
+  reserved_ignores h = ignored (Ok Reserved) h (λ i s. refl) refl

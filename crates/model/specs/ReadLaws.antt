@@ -1,5 +1,5 @@
 -- A read fits its width.
-use Rattle.std.specs.Prelude.{ℕ, ◌*◌, ◌^◌, ◌≤◌, ◌<◌, Bool, true, false, cond}
+use Rattle.std.specs.Prelude.{ℕ, ◌*◌, ◌^◌, ◌≤◌, ◌<◌, Bool, true, false, cond, Ok, Err}
 use Rattle.std.proofs.Math.Path.{◌≡◌, refl}
 use mathlib.Core.List.{List, [], ◌∷◌}
 use Rattle.std.proofs.Common.{arith, pow_mono, pow_pos}
@@ -9,12 +9,10 @@ use Rattle.registers.specs.declared.register.AccessWidth.{AccessWidth}
 use Rattle.registers.specs.declared.register.AccessWidth.TheVariants.{Byte, Word, Dword, Qword}
 use Rattle.bank.specs.declared.bank.Bank.{Bank}
 use Rattle.registers.specs.declared.register.Register.TheVariants.{Identification, Ctlr, Typer, Iidr, Fields, Reserved}
-use Rattle.registers.specs.declared.register.Access.{Access}
-use Rattle.registers.specs.declared.register.Access.TheVariants.{To, Refused}
 use Rattle.registers.specs.declared.register.Direction.TheVariants.{Reading}
 use Rattle.place.specs.Table.{in_table}
 use Rattle.bank.specs.Banks.{bits_of, shown}
-use Rattle.registers.specs.Registers.{bytes_of}
+use Rattle.registers.specs.Registers.{Access, bytes_of}
 use Rattle.decoding.specs.Decoding.{decode}
 use Rattle.controller.specs.Modes.{explicit}
 use Rattle.ownership.specs.Owned.{owned}
@@ -70,14 +68,14 @@ module _ (d : Distributor) (ok : Typed d) where
   read_fits offset w v e = go (decode Reading d.config.distributor_size offset w) refl e
     where
       go : (a : Access) → decode Reading d.config.distributor_size offset w ≡ a → (read_reply d a).answer ≡ done (v ∷ []) → v < 2 ^ (8 * bytes_of w)
-      go (Refused f) p q = let z : ◌≡◌ {A = ℕ} 0 1 = cc in absurd (omega arith)
-      go (To (Identification k)) p q = let z : get_or component_id k 0 ≡ v = cc in rw z at (byte_fits _ w (id_fits k))
-      go (To Ctlr) p q = let z : ctlr_value d.switch ≡ v = cc in let b = bit_fits d.switch in byte_fits v w (omega arith)
-      go (To Typer) p q = let z : typer_value d.config (size d) ≡ v = cc in dword_fits v w (decode_sound _ offset w Typer p) (rw z at typer_fits)
-      go (To Iidr) p q = let z : 0x43b ≡ v = cc in dword_fits v w (decode_sound _ offset w Iidr p) (omega arith)
-      go (To (Fields b lo m)) p q = fields (read_beyond (explicit d.config.spi_ownership) (size d) b lo m) q
+      go (Err f) p q = let z : ◌≡◌ {A = ℕ} 0 1 = cc in absurd (omega arith)
+      go (Ok (Identification k)) p q = let z : get_or component_id k 0 ≡ v = cc in rw z at (byte_fits _ w (id_fits k))
+      go (Ok Ctlr) p q = let z : ctlr_value d.switch ≡ v = cc in let b = bit_fits d.switch in byte_fits v w (omega arith)
+      go (Ok Typer) p q = let z : typer_value d.config (size d) ≡ v = cc in dword_fits v w (decode_sound _ offset w Typer p) (rw z at typer_fits)
+      go (Ok Iidr) p q = let z : 0x43b ≡ v = cc in dword_fits v w (decode_sound _ offset w Iidr p) (omega arith)
+      go (Ok (Fields b lo m)) p q = fields (read_beyond (explicit d.config.spi_ownership) (size d) b lo m) q
         where
           fields : (l : List ℕ) → unless l (done (bank_value (explicit d.config.spi_ownership) (size d) b lo m d.slots ∷ [])) ≡ done (v ∷ []) → v < 2 ^ (8 * bytes_of w)
           fields [] r = let z : bank_value (explicit d.config.spi_ownership) (size d) b lo m d.slots ≡ v = cc in rw z at (bank_fits b lo m w (decode_sound _ offset w (Fields b lo m) p))
           fields (i ∷ is) r = let z : ◌≡◌ {A = ℕ} 0 1 = cc in absurd (omega arith)
-      go (To Reserved) p q = let z : ◌≡◌ {A = ℕ} 0 v = cc in byte_fits v w (omega arith)
+      go (Ok Reserved) p q = let z : ◌≡◌ {A = ℕ} 0 v = cc in byte_fits v w (omega arith)

@@ -1,6 +1,6 @@
 -- When a call is refused, and with what, in the paper's words and in its order. Each law is an equation: it says when a refusal is given
 -- and when it is not.
-use Rattle.std.specs.Prelude.{ℕ, zero, suc, ◌+◌, ◌-◌, ◌*◌, ◌/◌, ◌%◌, ◌^◌, ◌≤◌, ◌≡◌, Bool, not, ◌&&◌, ◌||◌, ◌↔◌, leb, ltb, eqb}
+use Rattle.std.specs.Prelude.{ℕ, zero, suc, ◌+◌, ◌-◌, ◌*◌, ◌/◌, ◌%◌, ◌^◌, ◌≤◌, ◌≡◌, Bool, not, ◌&&◌, ◌||◌, ◌↔◌, leb, ltb, eqb, Ok, Err}
 use Rattle.std.proofs.Math.Path.{refl, ap}
 use Rattle.std.proofs.Common.{sym, ◌∙◌, arith, lt-ltb, le-ltb, le-leb}
 use Rattle.std.proofs.Math.Bool.{true, false, cond}
@@ -22,9 +22,7 @@ use Rattle.registers.specs.declared.register.Direction.{Direction}
 use Rattle.registers.specs.declared.register.Direction.TheVariants.{Reading, Writing}
 use Rattle.registers.specs.declared.register.Register.{Register}
 use Rattle.registers.specs.declared.register.Register.TheVariants.{Identification, Ctlr, Typer, Iidr, Fields, Reserved}
-use Rattle.registers.specs.declared.register.Access.{Access}
-use Rattle.registers.specs.declared.register.Access.TheVariants.{To, Refused}
-use Rattle.registers.specs.Registers.{bytes_of, map, lookup}
+use Rattle.registers.specs.Registers.{Access, bytes_of, map, lookup}
 use Rattle.registers.specs.MapLaws.{flag_bank}
 use Rattle.registers.specs.FrameLaws.{words, in_words, needs_another, reached}
 use Rattle.registers.specs.FrameMap.{register_there, flags_there, ipriorityr_there, icfgr_there}
@@ -105,7 +103,7 @@ module _ (d : Distributor) where
 -- 3 before 4; an access that is neither reaches what lies there
 abbrev pub reached_at : Direction → ℕ → ℕ → AccessWidth → Access
 reached_at d frame o w =
-    cond (misplaced frame o w) (Refused InvalidAccess) (cond (needs_another d o w) (Refused InvalidWidth) (To (register_there o w)))
+    cond (misplaced frame o w) (Err InvalidAccess) (cond (needs_another d o w) (Err InvalidWidth) (Ok (register_there o w)))
 
 ltb_not : (a b : ℕ) → ltb a b ≡ not (leb b a)
 ltb_not a b =
@@ -127,11 +125,11 @@ decoded_at d frame o w = decoded d frame o w ∙ go (misplaced frame o w) (needs
     there h = register_there_lem d o w (reached (lookup d map o w)) (width_decides d o w ∙ (rw h))
 
     go : (x y : Bool) → legal frame o w ≡ not x → needs_another d o w ≡ y
-        → cond (legal frame o w) (cond y (Refused InvalidWidth) (To (reached (lookup d map o w)))) (Refused InvalidAccess)
-        ≡ cond x (Refused InvalidAccess) (cond y (Refused InvalidWidth) (To (register_there o w)))
+        → cond (legal frame o w) (cond y (Err InvalidWidth) (Ok (reached (lookup d map o w)))) (Err InvalidAccess)
+        ≡ cond x (Err InvalidAccess) (cond y (Err InvalidWidth) (Ok (register_there o w)))
     go true y e f = rw e
     go false true e f = rw e
-    go false false e f = rw e (ap To (there f))
+    go false false e f = rw e (ap Ok (there f))
 
 -- ---- what is refused beyond the table
 
@@ -253,7 +251,7 @@ module _ (d : Distributor) (o : ℕ) (w : AccessWidth) where
   abbrev frame : ℕ
   frame = d.config.distributor_size
 
-  read_verdict : (g : Register) → verdict (read_reply d (To g)).answer ≡ unless (read_over e n g) (done [])
+  read_verdict : (g : Register) → verdict (read_reply d (Ok g)).answer ≡ unless (read_over e n g) (done [])
   unfolding read_over
   read_verdict (Identification k) = refl
   read_verdict Ctlr = refl
@@ -271,14 +269,14 @@ module _ (d : Distributor) (o : ℕ) (w : AccessWidth) where
   read_refused = ap (λ (a : Access). verdict (read_reply d a).answer) (decoded_at Reading frame o w) ∙ go (misplaced frame o w) (needs_another Reading o w)
     where
       go : (x y : Bool)
-          → verdict (read_reply d (cond x (Refused InvalidAccess) (cond y (Refused InvalidWidth) (To (register_there o w))))).answer
+          → verdict (read_reply d (cond x (Err InvalidAccess) (cond y (Err InvalidWidth) (Ok (register_there o w))))).answer
           ≡ cond x (refused 3 []) (cond y (refused 4 []) (unless (covered_beyond e n o w) (done [])))
       go true y = refl
       go false true = refl
       go false false = read_verdict (register_there o w) ∙ ap (λ (l : List ℕ). unless l (done [])) (read_over_lem e n o w)
 
   module _ (v places : ℕ) where
-    write_verdict : (g : Register) → verdict (write_reply d (To g) v).answer ≡ unless (write_over e n v g) (done [])
+    write_verdict : (g : Register) → verdict (write_reply d (Ok g) v).answer ≡ unless (write_over e n v g) (done [])
     unfolding write_over
     write_verdict (Identification k) = refl
     write_verdict Ctlr = refl
@@ -293,10 +291,10 @@ module _ (d : Distributor) (o : ℕ) (w : AccessWidth) where
 
     write_refused : verdict (reply (write o w v places) d).answer ≡ refusal_of d (write o w v places)
     unfolding reply
-    write_refused = ap (λ (a : Access). verdict (write_reply d (cond (ltb places n) (Refused ShortList) a) v).answer) (decoded_at Writing frame o w) ∙ go (ltb places n) (misplaced frame o w) (needs_another Writing o w)
+    write_refused = ap (λ (a : Access). verdict (write_reply d (cond (ltb places n) (Err ShortList) a) v).answer) (decoded_at Writing frame o w) ∙ go (ltb places n) (misplaced frame o w) (needs_another Writing o w)
       where
         go : (s x y : Bool)
-            → verdict (write_reply d (cond s (Refused ShortList) (cond x (Refused InvalidAccess) (cond y (Refused InvalidWidth) (To (register_there o w))))) v).answer
+            → verdict (write_reply d (cond s (Err ShortList) (cond x (Err InvalidAccess) (cond y (Err InvalidWidth) (Ok (register_there o w))))) v).answer
             ≡ cond s (refused 5 []) (cond x (refused 3 []) (cond y (refused 4 []) (unless (written_beyond e n o w v) (done []))))
         go true x y = refl
         go false true y = refl

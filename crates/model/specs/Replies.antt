@@ -1,5 +1,5 @@
 -- How many candidates a write lists, and what becomes of the lent list.
-use Rattle.std.specs.Prelude.{ℕ, ◌+◌, ◌≤◌, ◌<◌, ◌≡◌, refl, Bool, true, false, cond, List, [], ◌∷◌, ltb, length}
+use Rattle.std.specs.Prelude.{ℕ, ◌+◌, ◌≤◌, ◌<◌, ◌≡◌, refl, Bool, true, false, cond, List, [], ◌∷◌, ltb, length, Ok, Err}
 use Rattle.std.proofs.Common.{arith, ltb-false}
 use Rattle.std.proofs.Math.ListN.{get_elem?}
 use Rattle.theory.specs.Lists.{passing}
@@ -9,14 +9,13 @@ use Rattle.identifiers.specs.Answer.{Answer, refused, number_of, carried_by}
 use Rattle.registers.specs.declared.register.AccessWidth.{AccessWidth}
 use Rattle.bank.specs.declared.bank.Bank.{Bank}
 use Rattle.registers.specs.declared.register.Register.TheVariants.{Identification, Ctlr, Typer, Iidr, Fields, Reserved}
-use Rattle.registers.specs.declared.register.Access.{Access}
-use Rattle.registers.specs.declared.register.Access.TheVariants.{To, Refused}
 use Rattle.decoding.specs.Decoding.{write_access}
 use Rattle.controller.specs.Modes.{explicit}
 use Rattle.controller.specs.Identity.{switch_bit}
 use Rattle.slot.specs.BankRule.{candidate, bank_candidates, write_beyond}
 use Rattle.slot.specs.BankRuleLaws.{candidate_in}
 use Rattle.model.specs.Calls.{Distributor, write, Reply, plain, size, deliverable_at, outcome, listing, listing_unless, switch_candidates, write_reply, reply}
+use Rattle.registers.specs.Registers.{Access}
 
 module _ (d : Distributor) (offset : ℕ) (w : AccessWidth) (v places : ℕ) where
   -- a write is refused and lists none, or done and tells how many it lists: at most as many as there are SPIs
@@ -37,17 +36,17 @@ module _ (d : Distributor) (offset : ℕ) (w : AccessWidth) (v places : ℕ) whe
       go false = omega arith
 
   access_lists : (a : Access) → Lists (write_reply d a v)
-  access_lists (Refused f) = turned_down (number_of f) (carried_by f)
-  access_lists (To (Identification k)) = listed [] (omega arith)
-  access_lists (To Ctlr) = listed (switch_candidates d v) switch_few
-  access_lists (To Typer) = listed [] (omega arith)
-  access_lists (To Iidr) = listed [] (omega arith)
-  access_lists (To (Fields b lo m)) = go (write_beyond (explicit d.config.spi_ownership) (size d) b v lo m)
+  access_lists (Err f) = turned_down (number_of f) (carried_by f)
+  access_lists (Ok (Identification k)) = listed [] (omega arith)
+  access_lists (Ok Ctlr) = listed (switch_candidates d v) switch_few
+  access_lists (Ok Typer) = listed [] (omega arith)
+  access_lists (Ok Iidr) = listed [] (omega arith)
+  access_lists (Ok (Fields b lo m)) = go (write_beyond (explicit d.config.spi_ownership) (size d) b v lo m)
     where
       go : (l : List ℕ) → Lists (listing_unless l (bank_candidates (explicit d.config.spi_ownership) (size d) b v lo m d.slots))
       go [] = listed (bank_candidates (explicit d.config.spi_ownership) (size d) b v lo m d.slots) (bank_few b lo m)
       go (i ∷ is) = turned_down 1 (i ∷ [])
-  access_lists (To Reserved) = listed [] (omega arith)
+  access_lists (Ok Reserved) = listed [] (omega arith)
 
   pub write_lists : Lists (reply (write offset w v places) d)
   unfolding reply

@@ -1,6 +1,6 @@
 -- What the code's types say of a state: there are 988 slots, and a priority and the levels of an affinity are bytes. It holds of a
 -- Distributor just created, and every call keeps it.
-use Rattle.std.specs.Prelude.{ℕ, zero, suc, ◌+◌, ◌-◌, ◌<◌, ◌≡◌, refl, List, [], ◌∷◌, length, get_or}
+use Rattle.std.specs.Prelude.{ℕ, zero, suc, ◌+◌, ◌-◌, ◌<◌, ◌≡◌, refl, List, [], ◌∷◌, length, get_or, IfSome}
 use Rattle.std.proofs.Common.{subst, ◌∙◌, arith}
 use Rattle.std.proofs.Math.Path.{subst⁻¹}
 use Rattle.std.proofs.Math.Option.{some}
@@ -21,7 +21,7 @@ use Rattle.slot.specs.declared.slot.Slot.{Slot}
 use Rattle.slot.specs.Slots.{fresh_spi}
 use Rattle.slot.specs.NoSlot.{no_slot}
 use Rattle.slot.specs.BankRule.{slot_of}
-use Rattle.slot.specs.SettingsLaws.{TypedChange, zero_bytes, Stays}
+use Rattle.slot.specs.SettingsLaws.{TypedChange, Stays}
 use Rattle.slot.proofs.SettingsLaws.{field_keeps, change_keeps}
 use Rattle.changes.specs.declared.change.Change.{Change}
 use Rattle.changes.specs.declared.change.Change.TheVariants.{ClaimTo, SetCpuTargetMask, Operate}
@@ -32,7 +32,7 @@ use Rattle.model.specs.SlotLaws.{call_keeps}
 
 pub record TypedSlot (s : Slot) : Type 0 where
   pub priority : s.interrupt.priority.0 < 256
-  pub route : Bytes s.interrupt.route
+  pub route : IfSome s.interrupt.route Bytes
 
 pub record Typed (d : Distributor) : Type 0 where
   pub room : length d.slots ≡ capacity
@@ -45,7 +45,7 @@ pub record TypedCall (k : Call) : Type 0 where
 -- ---- settings
 
 abbrev IsTyped : Settings → Type 0
-IsTyped s = (s.0.0 < 256) × Bytes s.3
+IsTyped s = (s.0.0 < 256) × IfSome s.2 Bytes
 
 typed_stays : Stays IsTyped
 typed_stays =
@@ -53,8 +53,8 @@ typed_stays =
       priority = λ p s h ok. (h, ok.1);
       trigger = λ t s ok. ok;
       route = λ a s h ok. (ok.0, h);
-      unroute = λ s ok. (ok.0, zero_bytes);
-      mask = λ m s h ok. (ok.0, zero_bytes);
+      unroute = λ s ok. (ok.0, tt);
+      mask = λ m s h ok. (ok.0, tt);
     }
 
 -- ---- slots
@@ -70,10 +70,10 @@ call_typed c n k i s call ok =
     (λ e h raw z. slot_typed _ (change_keeps IsTyped typed_stays s (ok.priority, ok.route) h (call.change_typed h raw z)))
 
 fresh_typed : (raw : ℕ) → TypedSlot (fresh_spi raw)
-fresh_typed raw = slot_typed _ (subst⁻¹ IsTyped (fresh-settings (IntId.Spi (record { 0 = raw })) TriggerMode.Level) (omega arith, zero_bytes))
+fresh_typed raw = slot_typed _ (subst⁻¹ IsTyped (fresh-settings (IntId.Spi (record { 0 = raw })) TriggerMode.Level) (omega arith, tt))
 
 none_typed : TypedSlot no_slot
-none_typed = record { priority = omega arith; route = zero_bytes }
+none_typed = record { priority = omega arith; route = tt }
 
 -- ---- states
 

@@ -1,5 +1,5 @@
 -- The bits of a written value past the width are ignored: the value cut to its width is answered alike and does the same.
-use Rattle.std.specs.Prelude.{ℕ, suc, ◌+◌, ◌-◌, ◌*◌, ◌/◌, ◌%◌, ◌^◌, ◌≤◌, ◌<◌, ◌≡◌, Bool, true, false, cond, leb, ltb, eqb}
+use Rattle.std.specs.Prelude.{ℕ, suc, ◌+◌, ◌-◌, ◌*◌, ◌/◌, ◌%◌, ◌^◌, ◌≤◌, ◌<◌, ◌≡◌, Bool, true, false, cond, leb, ltb, eqb, Ok, Err}
 use Rattle.std.proofs.Math.Path.{refl, ap}
 use Rattle.std.proofs.Common.{◌∙◌, mul-suc, mul-le-mul_left, arith, leb-true, ltb-true}
 use mathlib.Core.List.{List}
@@ -15,10 +15,8 @@ use Rattle.bank.specs.FieldLaws.{pow-pow}
 use Rattle.registers.specs.declared.register.AccessWidth.{AccessWidth}
 use Rattle.registers.specs.declared.register.AccessWidth.TheVariants.{Byte, Word, Dword, Qword}
 use Rattle.registers.specs.declared.register.Register.TheVariants.{Identification, Ctlr, Typer, Iidr, Fields, Reserved}
-use Rattle.registers.specs.declared.register.Access.{Access}
-use Rattle.registers.specs.declared.register.Access.TheVariants.{To, Refused}
 use Rattle.registers.specs.declared.register.Direction.TheVariants.{Writing}
-use Rattle.registers.specs.Registers.{bytes_of}
+use Rattle.registers.specs.Registers.{Access, bytes_of}
 use Rattle.decoding.specs.Decoding.{decode, write_access}
 use Rattle.controller.specs.Modes.{explicit}
 use Rattle.controller.specs.Identity.{switch_bit}
@@ -75,10 +73,10 @@ module _ (d : Distributor) (offset : ℕ) (w : AccessWidth) (v places : ℕ) whe
   abbrev here : Access
   here = write_access places (size d) d.config.distributor_size offset w
 
-  fits_width : (b : Bank) (lo m : ℕ) → here ≡ To (Fields b lo m) → bits_of b * m ≤ 8 * bytes_of w
+  fits_width : (b : Bank) (lo m : ℕ) → here ≡ Ok (Fields b lo m) → bits_of b * m ≤ 8 * bytes_of w
   fits_width b lo m e = go (ltb places (size d)) e
     where
-      go : (t : Bool) → cond t (Refused ShortList) (decode Writing d.config.distributor_size offset w) ≡ To (Fields b lo m) → bits_of b * m ≤ 8 * bytes_of w
+      go : (t : Bool) → cond t (Err ShortList) (decode Writing d.config.distributor_size offset w) ≡ Ok (Fields b lo m) → bits_of b * m ≤ 8 * bytes_of w
       go true f = let z : ◌≡◌ {A = ℕ} 0 1 = cc in absurd (omega arith)
       go false f = decode-covers Writing d.config.distributor_size offset w b lo m f
 
@@ -88,17 +86,17 @@ module _ (d : Distributor) (offset : ℕ) (w : AccessWidth) (v places : ℕ) whe
   cut-reply = go here refl
     where
       go : (a : Access) → here ≡ a → write_reply d a (cut w v) ≡ write_reply d a v
-      go (Refused f) e = refl
-      go (To (Identification k)) e = refl
-      go (To Ctlr) e = let s = switch_cut w v in rw s
-      go (To Typer) e = refl
-      go (To Iidr) e = refl
-      go (To (Fields b lo m)) e =
+      go (Err f) e = refl
+      go (Ok (Identification k)) e = refl
+      go (Ok Ctlr) e = let s = switch_cut w v in rw s
+      go (Ok Typer) e = refl
+      go (Ok Iidr) e = refl
+      go (Ok (Fields b lo m)) e =
           let f = fits_width b lo m e in
           let x = beyond_cut (explicit d.config.spi_ownership) (size d) b (8 * bytes_of w) v lo m f in
           let y = candidates_cut (explicit d.config.spi_ownership) (size d) b (8 * bytes_of w) v lo m f d.slots in
           rw (x, y)
-      go (To Reserved) e = refl
+      go (Ok Reserved) e = refl
 
   -- the whole next state
   pub cut_step : step (write offset w (cut w v) places) d ≡ step (write offset w v places) d
@@ -106,13 +104,13 @@ module _ (d : Distributor) (offset : ℕ) (w : AccessWidth) (v places : ℕ) whe
   cut_step = go here refl
     where
       go : (a : Access) → here ≡ a → after_write d a (cut w v) ≡ after_write d a v
-      go (Refused f) e = refl
-      go (To (Identification k)) e = refl
-      go (To Ctlr) e = let s = switch_cut w v in rw s
-      go (To Typer) e = refl
-      go (To Iidr) e = refl
-      go (To (Fields b lo m)) e =
+      go (Err f) e = refl
+      go (Ok (Identification k)) e = refl
+      go (Ok Ctlr) e = let s = switch_cut w v in rw s
+      go (Ok Typer) e = refl
+      go (Ok Iidr) e = refl
+      go (Ok (Fields b lo m)) e =
           ap (λ (l : List Slot). record { config = d.config; switch = d.switch; count = d.count; slots = l })
           (map_at_same (λ p. bank_slot (explicit d.config.spi_ownership) (size d) b (cut w v) lo m (32 + p)) (λ p. bank_slot (explicit d.config.spi_ownership) (size d) b v lo m (32 + p)) d.slots
           (λ p s. slot_cut (explicit d.config.spi_ownership) (size d) b (8 * bytes_of w) v lo m (fits_width b lo m e) (32 + p) s))
-      go (To Reserved) e = refl
+      go (Ok Reserved) e = refl

@@ -1,5 +1,5 @@
 -- What a crate above may know of a record: two tables of what each operation makes of it, and what is read back.
-use Rattle.std.specs.Prelude.{ℕ, ◌≡◌, refl, Bool, true, false, not, ◌&&◌, ◌||◌}
+use Rattle.std.specs.Prelude.{ℕ, ◌≡◌, refl, Bool, true, false, not, ◌&&◌, ◌||◌, Option, Some, None, Ok}
 use Rattle.std.proofs.Math.Path.{subst⁻¹}
 use Rattle.std.proofs.Math.Bool.{or-true}
 use Rattle.identifiers.specs.declared.types.IntId.{IntId}
@@ -11,18 +11,17 @@ use Rattle.life.specs.declared.life.Life.{Life}
 use Rattle.interrupt.specs.declared.interrupt.InterruptRecord.{InterruptRecord}
 use Rattle.operation.specs.declared.operation.Operation.{Operation}
 use Rattle.operation.specs.declared.operation.Operation.TheVariants.{SetEnabled, SetPending, SetActive, SetState, ClearDeliveryState, MarkInflight, CancelInflight, FinishInflight, DeactivateInflight, SetPriority, SetTrigger, SetRoute, ClearRoute, SetLevel, Pulse, Complete}
-use Rattle.attributes.specs.Affinity.{affinity}
 use Rattle.attributes.specs.States.{pending_of, active_of, state_of}
 use Rattle.life.specs.Life.{flags, redelivery, line}
 use Rattle.interrupt.specs.Records.{fresh, with_life, is_level, state_in, line_to, line_pulsed, synchronized_with, priority_to, trigger_to, route_to, unrouted, mask_to}
 use Rattle.operation.specs.Operation.{applied}
 
--- priority, trigger, and the route and the target mask, each behind its flag
+-- priority, trigger, route and target mask
 abbrev pub Settings : Type 0
-Settings = Priority × TriggerMode × Bool × GicAffinity × Bool × ℕ
+Settings = Priority × TriggerMode × Option GicAffinity × Option ℕ
 
 abbrev pub settings_of : InterruptRecord → Settings
-settings_of r = (r.priority, r.trigger, r.routed, r.route, r.masked, r.cpu_target_mask)
+settings_of r = (r.priority, r.trigger, r.route, r.cpu_target_mask)
 
 -- whether a line that goes low lets pending and the mark stand: the interrupt is active, or not level-sensitive
 abbrev pub stands : Bool → Life → Bool
@@ -49,7 +48,7 @@ flags_after (SetTrigger t) level f = f
 flags_after (SetRoute a) level f = f
 flags_after ClearRoute level f = f
 
--- the settings after each operation: a route or a target mask, never both, and 0 for what is absent
+-- the settings after each operation: a route or a target mask, never both
 abbrev pub settings_after : Operation → InterruptRecord → Settings
 settings_after (SetEnabled on) r = settings_of r
 settings_after (SetPending on) r = settings_of r
@@ -64,10 +63,10 @@ settings_after (SetLevel true) r = settings_of r
 settings_after (SetLevel false) r = settings_of r
 settings_after Pulse r = settings_of r
 settings_after Complete r = settings_of r
-settings_after (SetPriority p) r = (p, r.trigger, r.routed, r.route, r.masked, r.cpu_target_mask)
-settings_after (SetTrigger t) r = (r.priority, t, r.routed, r.route, r.masked, r.cpu_target_mask)
-settings_after (SetRoute a) r = (r.priority, r.trigger, true, a, false, 0)
-settings_after ClearRoute r = (r.priority, r.trigger, false, affinity 0 0 0 0, r.masked, r.cpu_target_mask)
+settings_after (SetPriority p) r = (p, r.trigger, r.route, r.cpu_target_mask)
+settings_after (SetTrigger t) r = (r.priority, t, r.route, r.cpu_target_mask)
+settings_after (SetRoute a) r = (r.priority, r.trigger, Some a, None)
+settings_after ClearRoute r = (r.priority, r.trigger, None, r.cpu_target_mask)
 
 -- a mark that is dropped where the merged state is active and pending is dropped where it is active: the mark makes it pending
 mark : (p d a : Bool) → (d && not ((p || d) && a)) ≡ (d && not a)
@@ -134,16 +133,16 @@ intid_kept (SetTrigger t) r = refl
 intid_kept (SetRoute a) r = refl
 intid_kept ClearRoute r = refl
 
--- what holds of the settings holds after every operation, if it does after the four that set one. `Ok` is what is known of the operation
-pub settings_hold : (P : Settings → Type 0) (Ok : Operation → Type 0) (r : InterruptRecord) → P (settings_of r)
-    → ((p : Priority) → Ok (SetPriority p) → P (settings_after (SetPriority p) r))
-    → ((t : TriggerMode) → Ok (SetTrigger t) → P (settings_after (SetTrigger t) r))
-    → ((a : GicAffinity) → Ok (SetRoute a) → P (settings_after (SetRoute a) r))
-    → (Ok ClearRoute → P (settings_after ClearRoute r))
-    → (o : Operation) → Ok o → P (settings_of (applied o r))
-settings_hold P Ok r h priority trigger route unroute o ok = subst⁻¹ P (settings-after o r) (go o ok)
+-- what holds of the settings holds after every operation, if it does after the four that set one. `Known` is what is known of the operation
+pub settings_hold : (P : Settings → Type 0) (Known : Operation → Type 0) (r : InterruptRecord) → P (settings_of r)
+    → ((p : Priority) → Known (SetPriority p) → P (settings_after (SetPriority p) r))
+    → ((t : TriggerMode) → Known (SetTrigger t) → P (settings_after (SetTrigger t) r))
+    → ((a : GicAffinity) → Known (SetRoute a) → P (settings_after (SetRoute a) r))
+    → (Known ClearRoute → P (settings_after ClearRoute r))
+    → (o : Operation) → Known o → P (settings_of (applied o r))
+settings_hold P Known r h priority trigger route unroute o ok = subst⁻¹ P (settings-after o r) (go o ok)
   where
-    go : (x : Operation) → Ok x → P (settings_after x r)
+    go : (x : Operation) → Known x → P (settings_after x r)
     go (SetEnabled on) k = h
     go (SetPending on) k = h
     go (SetActive on) k = h
@@ -165,11 +164,11 @@ settings_hold P Ok r h priority trigger route unroute o ok = subst⁻¹ P (setti
 -- a record is its INTID, its flags and its settings
 pub record_path : (r s : InterruptRecord) → r.intid ≡ s.intid → r.life ≡ s.life → settings_of r ≡ settings_of s → r ≡ s
 record_path r s i f g =
-    λ k. record { intid = i k; life = f k; priority = (g k).0; trigger = (g k).1; routed = (g k).2; route = (g k).3; masked = (g k).4; cpu_target_mask = (g k).5 }
+    λ k. record { intid = i k; life = f k; priority = (g k).0; trigger = (g k).1; route = (g k).2; cpu_target_mask = (g k).3 }
 
 -- ---- a new record
 
-pub fresh-settings : (i : IntId) (t : TriggerMode) → settings_of (fresh i t) ≡ (record { 0 = 0x80 }, t, false, affinity 0 0 0 0, false, 0)
+pub fresh-settings : (i : IntId) (t : TriggerMode) → settings_of (fresh i t) ≡ (record { 0 = 0x80 }, t, None, None)
 unfolding fresh
 fresh-settings i t = refl
 
@@ -193,7 +192,7 @@ pub mask_flags : (m : ℕ) (r : InterruptRecord) → (mask_to m r).life ≡ r.li
 unfolding mask_to
 mask_flags m r = refl
 
-pub mask_settings : (m : ℕ) (r : InterruptRecord) → settings_of (mask_to m r) ≡ (r.priority, r.trigger, false, affinity 0 0 0 0, true, m)
+pub mask_settings : (m : ℕ) (r : InterruptRecord) → settings_of (mask_to m r) ≡ (r.priority, r.trigger, None, Some m)
 unfolding mask_to
 mask_settings m r = refl
 

@@ -6,7 +6,7 @@ ghost use Rattle.operation.specs.Operation.{applied};
 use attributes::attributes::{GicAffinity, InterruptState, Priority, TriggerMode};
 use interrupt::interrupt::InterruptRecord;
 
-#[derive(Clone, Copy)]
+#[derive(Clone, Copy, Debug, PartialEq, Eq)]
 pub enum Operation {
     SetEnabled(bool),
     SetPending(bool),

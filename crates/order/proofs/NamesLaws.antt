@@ -1,5 +1,5 @@
 -- What a call names is what the paper's words say, `named_by`.
-use Rattle.std.specs.Prelude.{ℕ, zero, suc, ◌+◌, ◌-◌, ◌*◌, ◌/◌, ◌%◌, ◌^◌, ◌≤◌, ◌≡◌, Bool, true, false, not, ◌&&◌, cond, ltb, eqb}
+use Rattle.std.specs.Prelude.{ℕ, zero, suc, ◌+◌, ◌-◌, ◌*◌, ◌/◌, ◌%◌, ◌^◌, ◌≤◌, ◌≡◌, Bool, true, false, not, ◌&&◌, cond, ltb, eqb, Ok, Err}
 use Rattle.std.proofs.Math.Path.{refl, ap}
 use Rattle.std.proofs.Common.{◌∙◌, arith, eqb-true, ne_eqb}
 use Rattle.std.proofs.Math.Bool.{and-true, and-false}
@@ -19,9 +19,7 @@ use Rattle.registers.specs.declared.register.Direction.{Direction}
 use Rattle.registers.specs.declared.register.Direction.TheVariants.{Reading, Writing}
 use Rattle.registers.specs.declared.register.Register.{Register}
 use Rattle.registers.specs.declared.register.Register.TheVariants.{Identification, Ctlr, Typer, Iidr, Fields, Reserved}
-use Rattle.registers.specs.declared.register.Access.{Access}
-use Rattle.registers.specs.declared.register.Access.TheVariants.{To, Refused}
-use Rattle.registers.specs.Registers.{bytes_of}
+use Rattle.registers.specs.Registers.{Access, bytes_of}
 use Rattle.registers.specs.MapLaws.{flag_bank}
 use Rattle.registers.specs.FrameLaws.{words, in_words, needs_another}
 use Rattle.registers.specs.FrameMap.{register_there, flags_there, ipriorityr_there, icfgr_there, irouter_there}
@@ -75,21 +73,21 @@ module _ (o : ℕ) (w : AccessWidth) where
 -- ---- reads and writes
 
 module _ (n : ℕ) (o : ℕ) (w : AccessWidth) (i : ℕ) where
-  read_named : read_names n (To (register_there o w)) (spi i) ≡ (covered_at o w i && in_table n i)
+  read_named : read_names n (Ok (register_there o w)) (spi i) ≡ (covered_at o w i && in_table n i)
   read_named = go (words 0x80 0x400 o) (within 0x400 0x7fc o) (words 0xc00 0xd00 o) (within 0x6000 0x7fe0 o) refl refl refl refl
     where
       f : Register → Bool
-      f g = read_names n (To g) (spi i)
+      f g = read_names n (Ok g) (spi i)
 
       go : (a b c d : Bool) → words 0x80 0x400 o ≡ a → within 0x400 0x7fc o ≡ b → words 0xc00 0xd00 o ≡ c → within 0x6000 0x7fe0 o ≡ d
-          → read_names n (To (register_there o w)) (spi i)
+          → read_names n (Ok (register_there o w)) (spi i)
           ≡ (cond a (within (o % 0x80 * 8) (o % 0x80 * 8 + bytes_of w * 8) i) (cond b (within (o - 0x400) (o - 0x400 + bytes_of w) i)
           (cond c (within ((o - 0xc00) * 4) ((o - 0xc00) * 4 + bytes_of w * 4) i) (cond d (within ((o - 0x6000) / 8) ((o - 0x6000) / 8 + bytes_of w / 8) i) false))) && in_table n i)
-      go true b c d p q r s = ap (λ (g : Register). read_names n (To g) (spi i)) (flags_there o w p)
-      go false true c d p q r s = ap (λ (g : Register). read_names n (To g) (spi i)) (ipriorityr_there o w q)
-      go false false true d p q r s = ap (λ (g : Register). read_names n (To g) (spi i)) (icfgr_there o w r)
-      go false false false true p q r s = ap (λ (g : Register). read_names n (To g) (spi i)) (irouter_there o w s)
-      go false false false false p q r s = bankless o w (λ g. read_names n (To g) (spi i)) (λ k. refl) refl refl refl refl p q r s
+      go true b c d p q r s = ap (λ (g : Register). read_names n (Ok g) (spi i)) (flags_there o w p)
+      go false true c d p q r s = ap (λ (g : Register). read_names n (Ok g) (spi i)) (ipriorityr_there o w q)
+      go false false true d p q r s = ap (λ (g : Register). read_names n (Ok g) (spi i)) (icfgr_there o w r)
+      go false false false true p q r s = ap (λ (g : Register). read_names n (Ok g) (spi i)) (irouter_there o w s)
+      go false false false false p q r s = bankless o w (λ g. read_names n (Ok g) (spi i)) (λ k. refl) refl refl refl refl p q r s
 
   -- of the seven flag banks IGROUPR takes no bit, and the others those that are 1
   flag_acts : (j v lo : ℕ) → j ≤ 6 → acts (flag_bank j) (field (flag_bank j) v lo i) ≡ (not (eqb j 0) && eqb (v / 2 ^ (i - lo) % 2) 1)
@@ -110,9 +108,9 @@ module _ (n : ℕ) (o : ℕ) (w : AccessWidth) (i : ℕ) where
       (λ h. let z : (o - 0x80) / 0x80 ≡ 0 = omega arith in rw (z, refuted (words 0x100 0x400 o) (λ e. let r = (in_words 0x100 0x400 o).0 e in omega arith)))
       (λ h. rw (ne_eqb ((o - 0x80) / 0x80) 0 (omega arith), (in_words 0x100 0x400 o).1 (omega arith, high, aligned)))
 
-  write_named : (v : ℕ) → write_names n (To (register_there o w)) v (spi i) ≡ (cond (eqb o 0x0) (eqb (v / 2 % 2) 1) (set_at o w v i) && in_table n i)
+  write_named : (v : ℕ) → write_names n (Ok (register_there o w)) v (spi i) ≡ (cond (eqb o 0x0) (eqb (v / 2 % 2) 1) (set_at o w v i) && in_table n i)
   write_named v =
-      at_ctlr o w (λ g. write_names n (To g) v (spi i)) (eqb (v / 2 % 2) 1 && in_table n i) (set_at o w v i && in_table n i) refl banks ∙ pulled (eqb o 0x0)
+      at_ctlr o w (λ g. write_names n (Ok g) v (spi i)) (eqb (v / 2 % 2) 1 && in_table n i) (set_at o w v i && in_table n i) refl banks ∙ pulled (eqb o 0x0)
     where
       pulled : (t : Bool) → cond t (eqb (v / 2 % 2) 1 && in_table n i) (set_at o w v i && in_table n i) ≡ (cond t (eqb (v / 2 % 2) 1) (set_at o w v i) && in_table n i)
       pulled true = refl
@@ -124,25 +122,25 @@ module _ (n : ℕ) (o : ℕ) (w : AccessWidth) (i : ℕ) where
       turned true false z t e = rw (and-false t)
       turned false y z t e = refl
 
-      banks : eqb o 0x0 ≡ false → write_names n (To (register_there o w)) v (spi i) ≡ (set_at o w v i && in_table n i)
+      banks : eqb o 0x0 ≡ false → write_names n (Ok (register_there o w)) v (spi i) ≡ (set_at o w v i && in_table n i)
       banks away = go (words 0x80 0x400 o) (within 0x400 0x7fc o) (words 0xc00 0xd00 o) (within 0x6000 0x7fe0 o) refl refl refl refl
         where
           go : (a b c d : Bool) → words 0x80 0x400 o ≡ a → within 0x400 0x7fc o ≡ b → words 0xc00 0xd00 o ≡ c → within 0x6000 0x7fe0 o ≡ d
-              → write_names n (To (register_there o w)) v (spi i)
+              → write_names n (Ok (register_there o w)) v (spi i)
               ≡ ((cond a (within (o % 0x80 * 8) (o % 0x80 * 8 + bytes_of w * 8) i) (cond b (within (o - 0x400) (o - 0x400 + bytes_of w) i)
               (cond c (within ((o - 0xc00) * 4) ((o - 0xc00) * 4 + bytes_of w * 4) i) (cond d (within ((o - 0x6000) / 8) ((o - 0x6000) / 8 + bytes_of w / 8) i) false)))
               && cond a (words 0x100 0x400 o && eqb (v / 2 ^ (i - o % 0x80 * 8) % 2) 1) true) && in_table n i)
           go true b c d p q r s =
               let (low, high, aligned) = (in_words 0x80 0x400 o).0 p in
-              ap (λ (g : Register). write_names n (To g) v (spi i)) (flags_there o w p)
+              ap (λ (g : Register). write_names n (Ok g) v (spi i)) (flags_there o w p)
               ∙ turned (within (o % 0x80 * 8) (o % 0x80 * 8 + bytes_of w * 8) i) (in_table n i) _ _
               (flag_acts ((o - 0x80) / 0x80) v (o % 0x80 * 8) (omega arith) ∙ ap (λ (x : Bool). x && eqb (v / 2 ^ (i - o % 0x80 * 8) % 2) 1) (after_group p))
-          go false true c d p q r s = ap (λ (g : Register). write_names n (To g) v (spi i)) (ipriorityr_there o w q) ∙ turned (within (o - 0x400) (o - 0x400 + bytes_of w) i) (in_table n i) true true refl
-          go false false true d p q r s = ap (λ (g : Register). write_names n (To g) v (spi i)) (icfgr_there o w r) ∙ turned (within ((o - 0xc00) * 4) ((o - 0xc00) * 4 + bytes_of w * 4) i) (in_table n i) true true refl
-          go false false false true p q r s = ap (λ (g : Register). write_names n (To g) v (spi i)) (irouter_there o w s) ∙ turned (within ((o - 0x6000) / 8) ((o - 0x6000) / 8 + bytes_of w / 8) i) (in_table n i) true true refl
+          go false true c d p q r s = ap (λ (g : Register). write_names n (Ok g) v (spi i)) (ipriorityr_there o w q) ∙ turned (within (o - 0x400) (o - 0x400 + bytes_of w) i) (in_table n i) true true refl
+          go false false true d p q r s = ap (λ (g : Register). write_names n (Ok g) v (spi i)) (icfgr_there o w r) ∙ turned (within ((o - 0xc00) * 4) ((o - 0xc00) * 4 + bytes_of w * 4) i) (in_table n i) true true refl
+          go false false false true p q r s = ap (λ (g : Register). write_names n (Ok g) v (spi i)) (irouter_there o w s) ∙ turned (within ((o - 0x6000) / 8) ((o - 0x6000) / 8 + bytes_of w / 8) i) (in_table n i) true true refl
           go false false false false p q r s = rw (away, p, q, r, s) (others (words 0xffd0 0x10000 o) (eqb o 0x4) (eqb o 0x8))
             where
-              others : (x y z : Bool) → write_names n (To (cond x (Identification ((o - 0xffd0) / 4)) (cond y Typer (cond z Iidr Reserved)))) v (spi i) ≡ false
+              others : (x y z : Bool) → write_names n (Ok (cond x (Identification ((o - 0xffd0) / 4)) (cond y Typer (cond z Iidr Reserved)))) v (spi i) ≡ false
               others true y z = refl
               others false true z = refl
               others false false true = refl
@@ -155,11 +153,11 @@ module _ (c : ControllerConfig) (n : ℕ) where
   frame = c.distributor_size
 
   -- a refused access names nothing, one that is granted what its register names
-  accessed : (d : Direction) (o : ℕ) (w : AccessWidth) (f : Access → Bool) (x : Bool) → f (Refused InvalidAccess) ≡ false → f (Refused InvalidWidth) ≡ false → f (To (register_there o w)) ≡ x
+  accessed : (d : Direction) (o : ℕ) (w : AccessWidth) (f : Access → Bool) (x : Bool) → f (Err InvalidAccess) ≡ false → f (Err InvalidWidth) ≡ false → f (Ok (register_there o w)) ≡ x
       → f (reached_at d frame o w) ≡ (granted c n d o w && x)
   accessed d o w f x three four there = go (misplaced frame o w) (needs_another d o w)
     where
-      go : (p q : Bool) → f (cond p (Refused InvalidAccess) (cond q (Refused InvalidWidth) (To (register_there o w)))) ≡ ((not p && not q) && x)
+      go : (p q : Bool) → f (cond p (Err InvalidAccess) (cond q (Err InvalidWidth) (Ok (register_there o w)))) ≡ ((not p && not q) && x)
       go true q = three
       go false true = four
       go false false = there
@@ -171,17 +169,17 @@ module _ (c : ControllerConfig) (n : ℕ) where
   read_so : (o : ℕ) (w : AccessWidth) (m : Name) → read_names n (reached_at Reading frame o w) m ≡ named_by c n (read o w) m
   read_so o w the_switch =
       accessed Reading o w (λ a. read_names n a the_switch) (eqb o 0x0) refl refl
-      (at_ctlr o w (λ g. read_names n (To g) the_switch) true false refl (not_ctlr o w (λ g. read_names n (To g) the_switch) (λ k. refl) refl refl (λ b lo m. refl) refl) ∙ at_zero (eqb o 0x0))
+      (at_ctlr o w (λ g. read_names n (Ok g) the_switch) true false refl (not_ctlr o w (λ g. read_names n (Ok g) the_switch) (λ k. refl) refl refl (λ b lo m. refl) refl) ∙ at_zero (eqb o 0x0))
   read_so o w (spi i) = accessed Reading o w (λ a. read_names n a (spi i)) (covered_at o w i && in_table n i) refl refl (read_named n o w i)
 
-  write_so : (o : ℕ) (w : AccessWidth) (v places : ℕ) (m : Name) → write_names n (cond (ltb places n) (Refused ShortList) (reached_at Writing frame o w)) v m ≡ named_by c n (write o w v places) m
+  write_so : (o : ℕ) (w : AccessWidth) (v places : ℕ) (m : Name) → write_names n (cond (ltb places n) (Err ShortList) (reached_at Writing frame o w)) v m ≡ named_by c n (write o w v places) m
   write_so o w v places m = go (ltb places n) m
     where
-      go : (s : Bool) (k : Name) → write_names n (cond s (Refused ShortList) (reached_at Writing frame o w)) v k ≡ (not s && written_by c n o w v k)
+      go : (s : Bool) (k : Name) → write_names n (cond s (Err ShortList) (reached_at Writing frame o w)) v k ≡ (not s && written_by c n o w v k)
       go true k = refl
       go false the_switch =
           accessed Writing o w (λ a. write_names n a v the_switch) (eqb o 0x0) refl refl
-          (at_ctlr o w (λ g. write_names n (To g) v the_switch) true false refl (not_ctlr o w (λ g. write_names n (To g) v the_switch) (λ k. refl) refl refl (λ b lo m. refl) refl) ∙ at_zero (eqb o 0x0))
+          (at_ctlr o w (λ g. write_names n (Ok g) v the_switch) true false refl (not_ctlr o w (λ g. write_names n (Ok g) v the_switch) (λ k. refl) refl refl (λ b lo m. refl) refl) ∙ at_zero (eqb o 0x0))
       go false (spi i) = accessed Writing o w (λ a. write_names n a v (spi i)) _ refl refl (write_named n o w i v)
 
   -- WHICH CALL NAMES WHAT
@@ -189,7 +187,7 @@ module _ (c : ControllerConfig) (n : ℕ) where
   unfolding names
   names_so (create d k) m = refl
   names_so (read o w) m = ap (λ (a : Access). read_names n a m) (decoded_at Reading frame o w) ∙ read_so o w m
-  names_so (write o w v places) m = ap (λ (a : Access). write_names n (cond (ltb places n) (Refused ShortList) a) v m) (decoded_at Writing frame o w) ∙ write_so o w v places m
+  names_so (write o w v places) m = ap (λ (a : Access). write_names n (cond (ltb places n) (Err ShortList) a) v m) (decoded_at Writing frame o w) ∙ write_so o w v places m
   names_so is_switched_on the_switch = refl
   names_so is_switched_on (spi i) = refl
   names_so (rollback on) the_switch = refl

@@ -1,6 +1,6 @@
 -- A call keeps what it does not name.
 use Prim.Native.Nat.{ℕ, ◌+◌, ◌-◌, ◌≤◌}
-use Rattle.std.specs.Prelude.{◌≡◌, Bool, true, false, ◌&&◌, cond, leb}
+use Rattle.std.specs.Prelude.{◌≡◌, Bool, true, false, ◌&&◌, cond, leb, Ok, Err}
 use Rattle.std.proofs.Math.Path.{refl, ap}
 use Rattle.std.proofs.Common.{◌∙◌, true≢false, arith, leb-true}
 use Rattle.std.proofs.Math.Option.{Option, none, some, map}
@@ -11,8 +11,6 @@ use Rattle.slot.specs.declared.slot.Slot.{Slot}
 use Rattle.controller.specs.Modes.{explicit}
 use Rattle.bank.specs.Banks.{acts, lists, field}
 use Rattle.registers.specs.declared.register.Register.TheVariants.{Identification, Ctlr, Typer, Iidr, Fields, Reserved}
-use Rattle.registers.specs.declared.register.Access.{Access}
-use Rattle.registers.specs.declared.register.Access.TheVariants.{To, Refused}
 use Rattle.decoding.specs.Decoding.{write_access}
 use Rattle.ownership.specs.Owned.{owned}
 use Rattle.slot.specs.Effects.{FieldEffect, effect_of, untouched}
@@ -21,6 +19,7 @@ use Rattle.slot.specs.BankRule.{covers}
 use Rattle.model.specs.Calls.{Distributor, Call, create, read, write, is_switched_on, rollback, change, ask, size, written_at, slot_after, switched, switch_after, step}
 use Rattle.order.specs.Names.{Name, the_switch, spi, write_names, names}
 use Rattle.order.specs.OrderFacts.{contents}
+use Rattle.registers.specs.Registers.{Access}
 
 -- a field that is not covered, or does not act, leaves the slot
 unwritten : (covered acting own : Bool) (does : FieldEffect) (s : Slot) → (covered && acting) ≡ false
@@ -31,13 +30,13 @@ unwritten false acting own does s e = refl
 
 module _ (c : ControllerConfig) (n : ℕ) where
   write_switch : (a : Access) (v : ℕ) (on : Bool) → write_names n a v the_switch ≡ false → switched c n a v on ≡ on
-  write_switch (Refused f) v on e = refl
-  write_switch (To (Identification k)) v on e = refl
-  write_switch (To Ctlr) v on e = absurd (true≢false e)
-  write_switch (To Typer) v on e = refl
-  write_switch (To Iidr) v on e = refl
-  write_switch (To (Fields b lo m)) v on e = refl
-  write_switch (To Reserved) v on e = refl
+  write_switch (Err f) v on e = refl
+  write_switch (Ok (Identification k)) v on e = refl
+  write_switch (Ok Ctlr) v on e = absurd (true≢false e)
+  write_switch (Ok Typer) v on e = refl
+  write_switch (Ok Iidr) v on e = refl
+  write_switch (Ok (Fields b lo m)) v on e = refl
+  write_switch (Ok Reserved) v on e = refl
 
   switch_kept : (k : Call) (on : Bool) → names c n k the_switch ≡ false → switch_after c n k on ≡ on
   unfolding names
@@ -50,15 +49,15 @@ module _ (c : ControllerConfig) (n : ℕ) where
   switch_kept (ask q raw) on e = refl
 
   write_slot : (a : Access) (v i : ℕ) (s : Slot) → write_names n a v (spi i) ≡ false → written_at c n a v i s ≡ s
-  write_slot (Refused f) v i s e = refl
-  write_slot (To (Identification k)) v i s e = refl
-  write_slot (To Ctlr) v i s e = refl
-  write_slot (To Typer) v i s e = refl
-  write_slot (To Iidr) v i s e = refl
-  write_slot (To (Fields b lo m)) v i s e =
+  write_slot (Err f) v i s e = refl
+  write_slot (Ok (Identification k)) v i s e = refl
+  write_slot (Ok Ctlr) v i s e = refl
+  write_slot (Ok Typer) v i s e = refl
+  write_slot (Ok Iidr) v i s e = refl
+  write_slot (Ok (Fields b lo m)) v i s e =
       let f = field b v lo i in
       unwritten (covers n lo m i) (acts b f) (owned (explicit c.spi_ownership) s.ownership) (record { effect = effect_of s.ownership.fixed_route b f; lists = lists b }) s e
-  write_slot (To Reserved) v i s e = refl
+  write_slot (Ok Reserved) v i s e = refl
 
   slot_kept : (k : Call) (i : ℕ) (s : Slot) → names c n k (spi i) ≡ false → slot_after c n k i s ≡ s
   unfolding names

@@ -1,5 +1,5 @@
 -- A reply rests on what the call names: two states that hold the same under those names answer the call alike.
-use Rattle.std.specs.Prelude.{ℕ, ◌+◌, ◌≤◌, ◌<◌, ◌≡◌, Bool, true, false, ◌&&◌, cond, List, [], ◌∷◌, leb, eqb}
+use Rattle.std.specs.Prelude.{ℕ, ◌+◌, ◌≤◌, ◌<◌, ◌≡◌, Bool, true, false, ◌&&◌, cond, List, [], ◌∷◌, leb, eqb, Ok, Err}
 use Rattle.std.proofs.Math.Path.{refl, ap}
 use Rattle.std.proofs.Common.{le-leb, lt-ltb, eq-eqb}
 use Rattle.theory.specs.Bools.{both}
@@ -15,8 +15,6 @@ use Rattle.bank.specs.declared.bank.Bank.{Bank}
 use Rattle.bank.specs.Banks.{bit, acts, lists, field}
 use Rattle.bank.specs.BankLaws.{packed_same}
 use Rattle.registers.specs.declared.register.Register.TheVariants.{Identification, Ctlr, Typer, Iidr, Fields, Reserved}
-use Rattle.registers.specs.declared.register.Access.{Access}
-use Rattle.registers.specs.declared.register.Access.TheVariants.{To, Refused}
 use Rattle.registers.specs.declared.register.Direction.TheVariants.{Reading}
 use Rattle.decoding.specs.Decoding.{decode, write_access}
 use Rattle.slot.specs.declared.slot.Slot.{Slot}
@@ -29,6 +27,7 @@ use Rattle.spi.specs.Questions.{value_of, told_value}
 use Rattle.model.specs.Calls.{Distributor, Call, create, read, write, is_switched_on, rollback, change, ask, plain, deliverable_at, on_spi, read_reply, listing, listing_unless, switch_candidates, write_reply, reply}
 use Rattle.order.specs.Names.{the_switch, spi, read_names, write_names, names}
 use Rattle.order.specs.OrderFacts.{state_with}
+use Rattle.registers.specs.Registers.{Access}
 
 covered : (lo m i : ℕ) → lo ≤ i → i < lo + m → within lo (lo + m) i ≡ true
 covered lo m i p q = let e : leb lo i ≡ true = le-leb lo i p in rw e (lt-ltb i (lo + m) q)
@@ -81,13 +80,13 @@ module _ (c : ControllerConfig) (count : ℕ) (on on' : Bool) (l l' : List Slot)
   d' = state_with c count on' l'
 
   read_rests : (a : Access) → (read_names n a the_switch ≡ true → on ≡ on') → Same n l l' (λ i. read_names n a (spi i)) → read_reply d a ≡ read_reply d' a
-  read_rests (Refused f) s h = refl
-  read_rests (To (Identification k)) s h = refl
-  read_rests (To Ctlr) s h = ap (λ (b : Bool). plain (done (ctlr_value b ∷ []))) (s refl)
-  read_rests (To Typer) s h = refl
-  read_rests (To Iidr) s h = refl
-  read_rests (To (Fields b lo m)) s h = ap (λ (v : ℕ). plain (unless (read_beyond e n b lo m) (done (v ∷ [])))) (value_same n l l' e b lo m h)
-  read_rests (To Reserved) s h = refl
+  read_rests (Err f) s h = refl
+  read_rests (Ok (Identification k)) s h = refl
+  read_rests (Ok Ctlr) s h = ap (λ (b : Bool). plain (done (ctlr_value b ∷ []))) (s refl)
+  read_rests (Ok Typer) s h = refl
+  read_rests (Ok Iidr) s h = refl
+  read_rests (Ok (Fields b lo m)) s h = ap (λ (v : ℕ). plain (unless (read_beyond e n b lo m) (done (v ∷ [])))) (value_same n l l' e b lo m h)
+  read_rests (Ok Reserved) s h = refl
 
   switch_rests : (v : ℕ) → Same n l l' (λ i. switch_bit v && in_table n i) → switch_candidates d v ≡ switch_candidates d' v
   switch_rests v h = go (switch_bit v) h
@@ -97,13 +96,13 @@ module _ (c : ControllerConfig) (count : ℕ) (on on' : Bool) (l l' : List Slot)
       go false h = refl
 
   write_rests : (a : Access) (v : ℕ) → Same n l l' (λ i. write_names n a v (spi i)) → write_reply d a v ≡ write_reply d' a v
-  write_rests (Refused f) v h = refl
-  write_rests (To (Identification k)) v h = refl
-  write_rests (To Ctlr) v h = ap listing (switch_rests v h)
-  write_rests (To Typer) v h = refl
-  write_rests (To Iidr) v h = refl
-  write_rests (To (Fields b lo m)) v h = ap (listing_unless (write_beyond e n b v lo m)) (candidates_same n l l' e b v lo m h)
-  write_rests (To Reserved) v h = refl
+  write_rests (Err f) v h = refl
+  write_rests (Ok (Identification k)) v h = refl
+  write_rests (Ok Ctlr) v h = ap listing (switch_rests v h)
+  write_rests (Ok Typer) v h = refl
+  write_rests (Ok Iidr) v h = refl
+  write_rests (Ok (Fields b lo m)) v h = ap (listing_unless (write_beyond e n b v lo m)) (candidates_same n l l' e b v lo m h)
+  write_rests (Ok Reserved) v h = refl
 
   host_rests : (raw : ℕ) (f : Slot → Answer) → Same n l l' (λ i. in_table n i && eqb i raw) → on_spi d raw f ≡ on_spi d' raw f
   host_rests raw f h = go (in_table n raw) refl

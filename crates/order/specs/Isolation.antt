@@ -1,5 +1,5 @@
 -- Two facts on ownership: what a guest write cannot change, and what a guest read cannot see.
-use Rattle.std.specs.Prelude.{ℕ, ◌+◌, ◌-◌, ◌≡◌, refl, Bool, true, false, not, ◌&&◌, ◌||◌, cond, List, [], ◌∷◌}
+use Rattle.std.specs.Prelude.{ℕ, ◌+◌, ◌-◌, ◌≡◌, refl, Bool, true, false, not, ◌&&◌, ◌||◌, cond, List, [], ◌∷◌, Ok, Err}
 use Rattle.std.proofs.Common.{sym, ap, ◌∙◌, true≢false}
 use Rattle.theory.specs.MapAtLaws.{relates_map_at}
 use Rattle.identifiers.specs.Answer.{done, unless}
@@ -11,8 +11,6 @@ use Rattle.bank.specs.Banks.{shown, acts, lists, field}
 use Rattle.bank.specs.BankLaws.{packed_same}
 use Rattle.registers.specs.declared.register.AccessWidth.{AccessWidth}
 use Rattle.registers.specs.declared.register.Register.TheVariants.{Identification, Ctlr, Typer, Iidr, Fields, Reserved}
-use Rattle.registers.specs.declared.register.Access.{Access}
-use Rattle.registers.specs.declared.register.Access.TheVariants.{To, Refused}
 use Rattle.registers.specs.declared.register.Direction.TheVariants.{Reading}
 use Rattle.decoding.specs.Decoding.{decode, write_access}
 use Rattle.slot.specs.declared.slot.Slot.{Slot}
@@ -23,6 +21,7 @@ use Rattle.slot.specs.NoSlot.{no_slot}
 use Rattle.slot.specs.BankRule.{slot_of, covers, shown_at, bank_slot, read_beyond}
 use Rattle.model.specs.Calls.{Distributor, read, write, plain, size, written_at, slot_after, step, read_reply, reply}
 use Rattle.order.specs.OrderFacts.{state_with}
+use Rattle.registers.specs.Registers.{Access}
 
 -- ---- a guest write
 
@@ -53,13 +52,13 @@ module _ (e : Bool) where
       go false y o own = still s
 
 access_spares : (c : ControllerConfig) (n : ℕ) (a : Access) (v i : ℕ) (s : Slot) → Spared (explicit c.spi_ownership) s (written_at c n a v i s)
-access_spares c n (Refused f) v i s = still _ s
-access_spares c n (To (Identification k)) v i s = still _ s
-access_spares c n (To Ctlr) v i s = still _ s
-access_spares c n (To Typer) v i s = still _ s
-access_spares c n (To Iidr) v i s = still _ s
-access_spares c n (To (Fields b lo m)) v i s = bank_spares _ n b v lo m i s
-access_spares c n (To Reserved) v i s = still _ s
+access_spares c n (Err f) v i s = still _ s
+access_spares c n (Ok (Identification k)) v i s = still _ s
+access_spares c n (Ok Ctlr) v i s = still _ s
+access_spares c n (Ok Typer) v i s = still _ s
+access_spares c n (Ok Iidr) v i s = still _ s
+access_spares c n (Ok (Fields b lo m)) v i s = bank_spares _ n b v lo m i s
+access_spares c n (Ok Reserved) v i s = still _ s
 
 -- a guest write changes no claim, no fixed mark and no unowned record
 pub guest_write_spares : (d : Distributor) (offset : ℕ) (w : AccessWidth) (v places i : ℕ)
@@ -102,16 +101,16 @@ module _ (c : ControllerConfig) (count : ℕ) (on : Bool) (l l' : List Slot) (al
   n = table_size count
 
   read_alike : (a : Access) → read_reply (state_with c count on l) a ≡ read_reply (state_with c count on l') a
-  read_alike (Refused f) = refl
-  read_alike (To (Identification k)) = refl
-  read_alike (To Ctlr) = refl
-  read_alike (To Typer) = refl
-  read_alike (To Iidr) = refl
-  read_alike (To (Fields b lo m)) =
+  read_alike (Err f) = refl
+  read_alike (Ok (Identification k)) = refl
+  read_alike (Ok Ctlr) = refl
+  read_alike (Ok Typer) = refl
+  read_alike (Ok Iidr) = refl
+  read_alike (Ok (Fields b lo m)) =
       ap (λ (v : ℕ). plain (unless (read_beyond e n b lo m) (done (v ∷ []))))
       (packed_same b (shown_at e n b l) (shown_at e n b l') lo m
       (λ i p q. ap (λ (v : ℕ). cond (in_table n i) v 0) (showing-alike e b (slot_of l i) (slot_of l' i) (alike i))))
-  read_alike (To Reserved) = refl
+  read_alike (Ok Reserved) = refl
 
 -- two states alike but for the contents of unowned records give every guest read the same answer
 pub guest_read_blind : (d e : Distributor) → Alike d e → (offset : ℕ) (w : AccessWidth) → reply (read offset w) d ≡ reply (read offset w) e

@@ -1,6 +1,6 @@
 -- A refused call changes nothing, save a guest write that was refused for running beyond the table; nor does a call that only asks.
 use Prim.Native.Nat.{ℕ, ◌+◌, ◌-◌}
-use Rattle.std.specs.Prelude.{◌≡◌, Bool, true, false, not, ◌&&◌, cond, List, [], ◌∷◌, ◌≢◌, eqb, get_or}
+use Rattle.std.specs.Prelude.{◌≡◌, Bool, true, false, not, ◌&&◌, cond, List, [], ◌∷◌, ◌≢◌, eqb, get_or, Ok, Err}
 use Rattle.std.proofs.Math.Path.{refl}
 use Rattle.std.proofs.Common.{sym, ap, ◌∙◌, arith, eqb-true}
 use Rattle.std.proofs.Math.Option.{Option, none, some, map}
@@ -12,8 +12,6 @@ use Rattle.place.specs.Table.{in_table}
 use Rattle.controller.specs.Modes.{explicit}
 use Rattle.registers.specs.declared.register.AccessWidth.{AccessWidth}
 use Rattle.registers.specs.declared.register.Register.TheVariants.{Identification, Ctlr, Typer, Iidr, Fields, Reserved}
-use Rattle.registers.specs.declared.register.Access.{Access}
-use Rattle.registers.specs.declared.register.Access.TheVariants.{To, Refused}
 use Rattle.decoding.specs.Decoding.{write_access}
 use Rattle.slot.specs.declared.slot.Slot.{Slot}
 use Rattle.slot.specs.Slots.{changed}
@@ -24,6 +22,7 @@ use Rattle.changes.specs.declared.change.Change.TheVariants.{Claim, ClaimTo, Rel
 use Rattle.spi.specs.declared.question.Question.{Question}
 use Rattle.spi.specs.ChangeAnswers.{claim_answer, change_answer}
 use Rattle.model.specs.Calls.{Distributor, Call, create, read, write, is_switched_on, rollback, change, ask, size, written_at, changed_at, slot_after, switched, switch_after, step, on_spi, listing_unless, write_reply, reply}
+use Rattle.registers.specs.Registers.{Access}
 
 never : {A : Type 0} (vs ws : List ℕ) (r : ℕ) → done vs ≡ refused r ws → A
 never vs ws r e = let z : ◌≡◌ {A = ℕ} 0 1 = cc in absurd (omega arith)
@@ -85,17 +84,17 @@ module _ (d : Distributor) where
 
     write_still : (a : Access) (v : ℕ) → (write_reply d a v).answer ≡ refused r ws → r ≢ 1
         → (switched d.config (size d) a v d.switch ≡ d.switch) × ((i : ℕ) (s : Slot) → written_at d.config (size d) a v i s ≡ s)
-    write_still (Refused f) v e n = (refl, λ i s. refl)
-    write_still (To (Identification k)) v e n = never _ ws r e
-    write_still (To Ctlr) v e n = never _ ws r e
-    write_still (To Typer) v e n = never _ ws r e
-    write_still (To Iidr) v e n = never _ ws r e
-    write_still (To (Fields b lo m)) v e n = go (write_beyond (explicit d.config.spi_ownership) (size d) b v lo m) e
+    write_still (Err f) v e n = (refl, λ i s. refl)
+    write_still (Ok (Identification k)) v e n = never _ ws r e
+    write_still (Ok Ctlr) v e n = never _ ws r e
+    write_still (Ok Typer) v e n = never _ ws r e
+    write_still (Ok Iidr) v e n = never _ ws r e
+    write_still (Ok (Fields b lo m)) v e n = go (write_beyond (explicit d.config.spi_ownership) (size d) b v lo m) e
       where
         go : {A : Type 0} (l : List ℕ) → (listing_unless l (bank_candidates (explicit d.config.spi_ownership) (size d) b v lo m d.slots)).answer ≡ refused r ws → A
         go [] h = never _ ws r h
         go (i ∷ is) h = let z : r ≡ 1 = cc in absurd (n z)
-    write_still (To Reserved) v e n = never _ ws r e
+    write_still (Ok Reserved) v e n = never _ ws r e
 
     -- a refused call changes nothing, unless it is a write and refused 1
     pub refused_still : (k : Call) → (reply k d).answer ≡ refused r ws → ((offset : ℕ) (w : AccessWidth) (v places : ℕ) → k ≡ write offset w v places → r ≢ 1) → step k d ≡ d

@@ -2,7 +2,7 @@
 ghost use Rattle.std.specs.Prelude.{◌≡◌, ◌≤◌};
 ghost use Rattle.ownership.specs.Owned.{owned, visible};
 
-#[derive(Clone, Copy)]
+#[derive(Clone, Copy, Debug, PartialEq, Eq)]
 pub struct Ownership {
     // The host has claimed the SPI for the guest.
     pub explicitly_owned: bool,

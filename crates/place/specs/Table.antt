@@ -1,10 +1,9 @@
 -- Which INTIDs a table of SPIs has, and at which place each stands.
-use Rattle.std.specs.Prelude.{ℕ, ◌+◌, ◌-◌, min, max, Bool, ◌&&◌, cond, [], ◌∷◌, leb}
-use Rattle.identifiers.specs.Answer.{Answer, done, refused, told_refusal, within}
+use Rattle.std.specs.Prelude.{ℕ, ◌+◌, ◌-◌, min, max, Bool, ◌&&◌, cond, [], ◌∷◌, leb, Result, ⊤}
+use Rattle.identifiers.specs.Answer.{Answer, done, refused, told, within}
 use Rattle.place.specs.declared.place.Span.{Span}
-use Rattle.place.specs.declared.place.CreateAnswer.{CreateAnswer}
-use Rattle.place.specs.declared.place.PlaceAnswer.{PlaceAnswer}
-use Rattle.place.specs.declared.place.PlaceAnswer.TheVariants.{Done, Refused}
+use Rattle.identifiers.specs.declared.error.Refusal.{Refusal}
+use Rattle.place.specs.declared.place.Place.{Place}
 
 -- how many SPIs a table has room for
 abbrev pub capacity : ℕ
@@ -17,9 +16,8 @@ create_answer n = cond (leb n capacity) (done []) (refused 1 (1020 ∷ []))
 abbrev pub created_count : ℕ → ℕ
 created_count n = cond (leb n capacity) n 0
 
-abbrev pub told_create : CreateAnswer → Answer
-told_create CreateAnswer.Done = done []
-told_create (CreateAnswer.Refused f) = told_refusal f
+abbrev pub told_create : Result ⊤ Refusal → Answer
+told_create = told (λ x. [])
 
 abbrev pub table_size : ℕ → ℕ
 table_size count = min count capacity
@@ -36,9 +34,8 @@ beyond_table explicit n i = explicit && within (32 + n) 1020 i
 abbrev pub span_of : ℕ → ℕ → ℕ → Span
 span_of n lo m = record { first = max lo 32; end = min (lo + m) (32 + n) }
 
-abbrev pub told_place : PlaceAnswer → Answer
-told_place (Done p) = done (p.0 ∷ [])
-told_place (Refused f) = told_refusal f
+abbrev pub told_place : Result Place Refusal → Answer
+told_place = told (λ p. p ∷ [])
 
 -- INTID i stands 32 places lower; one that the table has not is refused 1
 abbrev pub place_answer : ℕ → ℕ → Answer

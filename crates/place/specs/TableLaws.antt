@@ -1,16 +1,14 @@
 -- Laws of the table's INTIDs and places.
-use Rattle.std.specs.Prelude.{ℕ, ◌+◌, ◌-◌, ◌≤◌, ◌<◌, ◌≡◌, refl, Bool, true, false, cond, [], ◌∷◌, ◌↔◌, leb}
+use Rattle.std.specs.Prelude.{ℕ, ◌+◌, ◌-◌, ◌≤◌, ◌<◌, ◌≡◌, refl, Bool, true, false, cond, [], ◌∷◌, ◌↔◌, leb, Result, Ok, Err, ⊤}
 use Rattle.std.proofs.Common.{arith, ap, leb-true, leb-false, ltb-true, le-leb, lt-ltb}
 use Rattle.std.proofs.lemmas.Bool.{lt-leb}
 use Rattle.theory.specs.Bools.{both, refuted}
 use Rattle.identifiers.specs.Answer.{done, refused, told_refusal, within}
-use Rattle.identifiers.proofs.AnswerLaws.{told-refusal}
+use Rattle.identifiers.proofs.AnswerLaws.{told-refusal, told_once}
 use Rattle.identifiers.specs.declared.error.Refusal.{Refusal}
 use Rattle.identifiers.specs.declared.error.Refusal.TheVariants.{InvalidIntId}
-use Rattle.place.specs.declared.place.CreateAnswer.{CreateAnswer}
-use Rattle.place.specs.declared.place.PlaceAnswer.{PlaceAnswer}
-use Rattle.place.specs.declared.place.PlaceAnswer.TheVariants.{Done, Refused}
 use Rattle.place.specs.Table.{create_answer, created_count, table_size, in_table, beyond_table, span_of, told_create, told_place, place_answer}
+use Rattle.place.specs.declared.place.Place.{Place}
 
 -- ---- which INTIDs a table of n SPIs has
 
@@ -82,14 +80,8 @@ off_place n i f h = go (in_table n i) refl h
     go false q k = (q, told-refusal f (InvalidIntId i) k)
 
 -- no two answers of the maker are told alike
-pub told-place : (a b : PlaceAnswer) → told_place a ≡ told_place b → a ≡ b
-told-place (Done p) (Done q) e = let x : p.0 ≡ q.0 = cc in ap (λ (n : ℕ). Done (record { 0 = n })) x
-told-place (Done p) (Refused g) e = cc
-told-place (Refused f) (Done q) e = cc
-told-place (Refused f) (Refused g) e = ap Refused (told-refusal f g e)
+pub told-place : (a b : Result Place Refusal) → told_place a ≡ told_place b → a ≡ b
+told-place = told_once _ (λ p q e. cc)
 
-pub told_create_lem : (a b : CreateAnswer) → told_create a ≡ told_create b → a ≡ b
-told_create_lem CreateAnswer.Done CreateAnswer.Done e = refl
-told_create_lem CreateAnswer.Done (CreateAnswer.Refused g) e = cc
-told_create_lem (CreateAnswer.Refused f) CreateAnswer.Done e = cc
-told_create_lem (CreateAnswer.Refused f) (CreateAnswer.Refused g) e = ap CreateAnswer.Refused (told-refusal f g e)
+pub told_create_lem : (a b : Result ⊤ Refusal) → told_create a ≡ told_create b → a ≡ b
+told_create_lem = told_once _ (λ x y e. refl)

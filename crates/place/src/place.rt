@@ -4,41 +4,42 @@ ghost use Rattle.std.specs.Prelude.{◌≡◌, ◌+◌, ◌-◌, min, max};
 ghost use Rattle.place.specs.Table.{capacity, create_answer, created_count, told_create, table_size, in_table, beyond_table, told_place, place_answer, span_of};
 
 use identifiers::error::Refusal;
+use std::marker::Model;
 
 // How many SPIs a table has room for: INTIDs 32 to 1019.
 pub const SPIS: usize = 988;
 
-#[derive(Clone, Copy)]
+#[derive(Clone, Copy, Debug, PartialEq, Eq, PartialOrd, Ord)]
 pub struct Place(usize);
 
+impl Model for Place {
+    ghost use Rattle.std.specs.Prelude.{ℕ, ◌<◌};
+
+    ghost Value = { ℕ };
+
+    ghost view = { λ p. p.0 };
+
+    // The table has room for it.
+    ghost invariant = { λ p. p.0 < 988 };
+
+    ghost inverse = { λ n. record { 0 = n } };
+}
+
 // Those of some INTIDs that the table has: from `first` up to below `end`.
-#[derive(Clone, Copy)]
+#[derive(Clone, Copy, Debug, PartialEq, Eq)]
 pub struct Span {
     pub first: u32,
     pub end: u32,
 }
 
-#[derive(Clone, Copy)]
-pub enum PlaceAnswer {
-    Done(Place),
-    Refused(Refusal),
-}
-
-// What a creation answers.
-#[derive(Clone, Copy)]
-pub enum CreateAnswer {
-    Done,
-    Refused(Refusal),
-}
-
 // More SPIs than a table has room for are refused, carrying 1020, the first INTID past the SPIs.
-pub fn create_answer(spi_count: u32) -> CreateAnswer
+pub fn create_answer(spi_count: u32) -> Result<(), Refusal>
     ensures { told_create result ≡ create_answer spi_count }
 {
     if spi_count <= SPIS as u32 {
-        CreateAnswer::Done
+        Ok(())
     } else {
-        CreateAnswer::Refused(Refusal::InvalidIntId(1020))
+        Err(Refusal::InvalidIntId(1020))
     }
 }
 
@@ -57,11 +58,7 @@ pub fn created_count(spi_count: u32) -> u32
 pub fn table_size(count: u32) -> u32
     ensures { result ≡ table_size count }
 {
-    if count < SPIS as u32 {
-        count
-    } else {
-        SPIS as u32
-    }
+    count.min(SPIS as u32)
 }
 
 // Whether that table has INTID i.
@@ -78,48 +75,36 @@ pub fn is_beyond(explicit: bool, n: u32, i: u64) -> bool
     explicit & ((32 + n as u64 <= i) & (i < 1020))
 }
 
-fn first_spi(lo: u32) -> u32
-    ensures { result ≡ max lo 32 }
-{
-    if lo < 32 { 32 } else { lo }
-}
-
-fn past_last(count: u32, lo: u32, m: u32) -> u32
-    ensures { result ≡ min (lo + m) (32 + table_size count) }
-{
-    let end = lo as u64 + m as u64;
-    let past = 32 + table_size(count);
-    if end < past as u64 { end as u32 } else { past }
-}
-
 impl Span {
     // Those of the m INTIDs from lo on.
     pub fn new(count: u32, lo: u32, m: u32) -> Self
         ensures { result ≡ span_of (table_size count) lo m }
     {
+        let past = 32 + table_size(count);
         Span {
-            first: first_spi(lo),
-            end: past_last(count, lo, m),
+            first: lo.max(32),
+            end: lo.saturating_add(m).min(past),
         }
     }
 }
 
 impl Place {
     // The place of INTID i, or refusal 1.
-    pub fn new(count: u32, i: u32) -> PlaceAnswer
+    pub fn new(count: u32, i: u32) -> Result<Self, Refusal>
         ensures { told_place result ≡ place_answer (table_size count) i }
     {
         if in_table(count, i) {
-            PlaceAnswer::Done(Place((i - 32) as usize))
+            Ok(Place((i - 32) as usize))
         } else {
-            PlaceAnswer::Refused(Refusal::InvalidIntId(i))
+            Err(Refusal::InvalidIntId(i))
         }
     }
 
     // The place of INTID i, of which is known that the table has it. (An INTID that is no SPI's is taken to the nearest that is.)
     pub fn nearest(i: u32) -> Self
-        ensures { result.0 ≡ min (i - 32) (capacity - 1) }
+        ensures { result ≡ min (i - 32) (capacity - 1) }
     {
+        // Two tests, and not `max` and `min`: a compiler leaves both out of a loop whose bounds answer them.
         if i < 32 {
             Place(0)
         } else if i - 32 < SPIS as u32 {
@@ -130,7 +115,7 @@ impl Place {
     }
 
     pub fn index(self) -> usize
-        ensures { result ≡ self.0 }
+        ensures { result ≡ self }
     {
         self.0
     }

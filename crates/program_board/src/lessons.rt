@@ -1,5 +1,5 @@
 // The stories of docs/LESSONS.md, run: five lines that an apprentice crosses, and why order binds the calls on one SPI.
-use crate::{ask, k, read, read_byte, show, spi, write};
+use crate::{ask, k, read, read_byte, spi, write};
 use attributes::attributes::{InterruptState, TriggerMode};
 use changes::change::Change;
 use distributor::distributor::DistributorState;
@@ -9,16 +9,13 @@ use spi::question::Question;
 use std::io;
 
 fn host(d: DistributorState, raw: u32, operation: Operation) -> DistributorState {
-    let c = d.change(spi(raw), Change::Operate(operation));
-    c.state
+    d.change(spi(raw), Change::Operate(operation)).state
 }
 
 // Enabled, and a pulse comes.
 fn waiting(raw: u32) -> DistributorState {
-    let mut d = k();
-    d = host(d, raw, Operation::SetEnabled(true));
-    d = host(d, raw, Operation::Pulse);
-    d
+    let enabled = host(k(), raw, Operation::SetEnabled(true));
+    host(enabled, raw, Operation::Pulse)
 }
 
 fn pending(rt: &impl Print, d: DistributorState, raw: u32) -> io::Result<()> {
@@ -27,19 +24,19 @@ fn pending(rt: &impl Print, d: DistributorState, raw: u32) -> io::Result<()> {
 
 fn lessons_1_to_4(rt: &impl Print) -> io::Result<()> {
     // The write's bits run past the table, and 64 waits to be delivered.
-    show::text(rt, b"lesson 1:")?;
+    print!(rt; "lesson 1:")?;
     let mut d = write(rt, waiting(64), 0x108, AccessWidth::Dword, 0x1ff)?;
     read(rt, d, 0x108)?;
     // 35 is nobody's, and it waits.
-    show::text(rt, b"\nlesson 2:")?;
+    print!(rt; "\nlesson 2:")?;
     d = waiting(35);
     read(rt, d, 0x204)?;
     write(rt, d, 0x0, AccessWidth::Dword, 2)?;
-    show::text(rt, b"\nlesson 3:")?;
+    print!(rt; "\nlesson 3:")?;
     d = k();
     read_byte(rt, d, 0x100)?;
     read_byte(rt, d, 0x101)?;
-    show::text(rt, b"\nlesson 4:")?;
+    print!(rt; "\nlesson 4:")?;
     d = released(waiting(33));
     read(rt, d, 0x84)?;
     ask(rt, d, 33, Question::Enabled)?;
@@ -47,13 +44,12 @@ fn lessons_1_to_4(rt: &impl Print) -> io::Result<()> {
 }
 
 fn released(d: DistributorState) -> DistributorState {
-    let c = d.change(spi(33), Change::Release);
-    c.state
+    d.change(spi(33), Change::Release).state
 }
 
 fn active(d: DistributorState) -> DistributorState {
-    let c = d.change(spi(33), Change::SynchronizeInflight(InterruptState::Active));
-    c.state
+    d.change(spi(33), Change::SynchronizeInflight(InterruptState::Active))
+        .state
 }
 
 fn high(d: DistributorState) -> DistributorState {
@@ -67,10 +63,9 @@ fn finished(rt: &impl Print, d: DistributorState) -> io::Result<()> {
 
 // 33, edge-triggered, in flight.
 fn redelivery(rt: &impl Print) -> io::Result<()> {
-    show::text(rt, b"\nlesson 5:")?;
-    let mut d = k();
-    d = host(d, 33, Operation::SetTrigger(TriggerMode::Edge));
-    d = host(d, 33, Operation::MarkInflight);
+    print!(rt; "\nlesson 5:")?;
+    let edge = host(k(), 33, Operation::SetTrigger(TriggerMode::Edge));
+    let d = host(edge, 33, Operation::MarkInflight);
     // The line is still high, or rises, while a core has 33 active.
     finished(rt, high(active(high(d))))?;
     finished(rt, high(active(d)))?;
@@ -93,8 +88,8 @@ fn either_order(rt: &impl Print, raw: u32) -> io::Result<()> {
 pub fn run(rt: &impl Print) -> io::Result<()> {
     lessons_1_to_4(rt)?;
     redelivery(rt)?;
-    show::text(rt, b"\nlesson 6:")?;
+    print!(rt; "\nlesson 6:")?;
     either_order(rt, 33)?;
     either_order(rt, 64)?;
-    show::text(rt, b"\n")
+    println!(rt;)
 }

@@ -6,7 +6,7 @@ ghost use Rattle.std.specs.Prelude.{◌≡◌, false};
 ghost use Rattle.interrupt.specs.Records.{line_to, line_pulsed};
 
 use attributes::attributes::{InterruptState, TriggerMode};
-use identifiers::types::{IntId, IntIdAnswer};
+use identifiers::types::IntId;
 use interrupt::interrupt::InterruptRecord;
 use lent::lent::{pulse_in_place, pulse_lent, set_level_in_place, set_level_lent};
 use std::io;
@@ -30,30 +30,24 @@ fn handled(intid: IntId) -> InterruptRecord {
         .set_state(InterruptState::Active)
 }
 
-fn print_flag(rt: &impl Print, name: &[u8], flag: bool) -> io::Result<()> {
-    rt.write_all(name)?;
-    print!(rt; "{}", flag as u64)
-}
-
-fn print_record(rt: &impl Print, when: &[u8], r: InterruptRecord) -> io::Result<()> {
-    rt.write_all(when)?;
-    print_flag(rt, b": pending ", r.pending())?;
-    print_flag(rt, b", active ", r.active())?;
-    print_flag(rt, b", deliverable ", r.deliverable())?;
-    rt.write_all(b"\n")
+fn print_record(rt: &impl Print, when: &str, r: InterruptRecord) -> io::Result<()> {
+    let pending = u8::from(r.pending());
+    let active = u8::from(r.active());
+    let deliverable = u8::from(r.deliverable());
+    println!(rt; "{when}: pending {pending}, active {active}, deliverable {deliverable}")
 }
 
 fn main(rt: HostRuntime) -> io::Result<()> {
-    let IntIdAnswer::Done(intid) = IntId::new(33) else {
+    let Ok(intid) = IntId::new(33) else {
         return Ok(());
     };
     let start = handled(intid);
-    print_record(&rt, b"handled", start)?;
-    print_record(&rt, b"pulse", pulse_lent(start))?;
+    print_record(&rt, "handled", start)?;
+    print_record(&rt, "pulse", pulse_lent(start))?;
     let fallen = set_level_lent(start, false);
-    print_record(&rt, b"line low", fallen)?;
-    print_record(&rt, b"line low, finished", fallen.finish_inflight())?;
+    print_record(&rt, "line low", fallen)?;
+    print_record(&rt, "line low, finished", fallen.finish_inflight())?;
     let both = falls_then_pulse(start);
-    print_record(&rt, b"line low, pulse", both)?;
-    print_record(&rt, b"line low, pulse, finished", both.finish_inflight())
+    print_record(&rt, "line low, pulse", both)?;
+    print_record(&rt, "line low, pulse, finished", both.finish_inflight())
 }

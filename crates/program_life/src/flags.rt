@@ -3,21 +3,18 @@ use attributes::attributes::{InterruptState, TriggerMode};
 use identifiers::types::{IntId, SpiId};
 use interrupt::interrupt::InterruptRecord;
 use life::life::Life;
-use std::io;
+use std::{array, fmt};
 
-// How many combinations of the flags there are; each is walked with both triggers.
-pub const COUNT: u32 = 64;
-
-// The n-th combination: a flag a bit.
-pub fn nth(n: u32) -> Life {
-    Life {
-        enabled: n / 32 % 2 == 1,
-        pending: n / 16 % 2 == 1,
-        active: n / 8 % 2 == 1,
-        inflight: n / 4 % 2 == 1,
-        redelivery_pending: n / 2 % 2 == 1,
-        line_asserted: n % 2 == 1,
-    }
+// Every combination of the flags: the n-th has a flag for each bit of n.
+pub(crate) fn combinations() -> [Life; 64] {
+    array::from_fn(|n| Life {
+        enabled: n & 0b10_0000 != 0,
+        pending: n & 0b01_0000 != 0,
+        active: n & 0b00_1000 != 0,
+        inflight: n & 0b00_0100 != 0,
+        redelivery_pending: n & 0b00_0010 != 0,
+        line_asserted: n & 0b00_0001 != 0,
+    })
 }
 
 // An SPI's record from its creation on: the line, taken by a core, a pulse, the state. It has these flags, unless the mark is
@@ -36,34 +33,31 @@ pub fn made(wanted: Life, trigger: TriggerMode) -> InterruptRecord {
         .set_state(InterruptState::of(wanted.pending, wanted.active))
 }
 
-pub fn same(a: Life, b: Life) -> bool {
-    (a.enabled == b.enabled)
-        & (a.pending == b.pending)
-        & (a.active == b.active)
-        & (a.inflight == b.inflight)
-        & (a.redelivery_pending == b.redelivery_pending)
-        & (a.line_asserted == b.line_asserted)
+// A record as a line shows it: a letter for each flag that is on (enabled, pending, active, in flight, redelivery, line), then the
+// trigger.
+#[derive(Clone, Copy, Debug, PartialEq, Eq)]
+pub struct Shown(pub InterruptRecord);
+
+impl fmt::Display for Shown {
+    fn fmt<W: fmt::Write>(&self, f: &mut fmt::Formatter<W>) -> fmt::Result {
+        let life = self.0.life();
+        for (on, letter) in [
+            (life.enabled, 'e'),
+            (life.pending, 'p'),
+            (life.active, 'a'),
+            (life.inflight, 'f'),
+            (life.redelivery_pending, 'r'),
+            (life.line_asserted, 'l'),
+        ] {
+            f.write_char(if on { letter } else { '-' })?;
+        }
+        write!(f, " {}", trigger_name(self.0.trigger()))
+    }
 }
 
-pub fn text(rt: &impl Print, words: &[u8]) -> io::Result<()> {
-    rt.write_all(words)
-}
-
-fn mark(rt: &impl Print, on: bool, letter: &[u8]) -> io::Result<()> {
-    if on { text(rt, letter) } else { text(rt, b"-") }
-}
-
-// A letter for each flag that is on: enabled, pending, active, in flight, redelivery, line; then the trigger.
-pub fn show(rt: &impl Print, irq: InterruptRecord) -> io::Result<()> {
-    let life = irq.life();
-    mark(rt, life.enabled, b"e")?;
-    mark(rt, life.pending, b"p")?;
-    mark(rt, life.active, b"a")?;
-    mark(rt, life.inflight, b"f")?;
-    mark(rt, life.redelivery_pending, b"r")?;
-    mark(rt, life.line_asserted, b"l")?;
-    match irq.trigger() {
-        TriggerMode::Edge => text(rt, b" edge"),
-        TriggerMode::Level => text(rt, b" level"),
+pub(crate) fn trigger_name(trigger: TriggerMode) -> &'static str {
+    match trigger {
+        TriggerMode::Edge => "edge",
+        TriggerMode::Level => "level",
     }
 }

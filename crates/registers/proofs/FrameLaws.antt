@@ -1,5 +1,5 @@
 -- What the map gives at every offset: where it has no register, and which width is needed.
-use Rattle.std.specs.Prelude.{ℕ, ◌-◌, ◌<◌, ◌≡◌, refl, Bool, true, not, ◌&&◌, ◌||◌, cond, List, [], ◌∷◌, ◌↔◌, eqb}
+use Rattle.std.specs.Prelude.{ℕ, ◌-◌, ◌<◌, ◌≡◌, refl, Bool, true, not, ◌&&◌, ◌||◌, cond, List, [], ◌∷◌, ◌↔◌, eqb, Ok, Err}
 use Rattle.std.proofs.Common.{sym, ◌∙◌, arith, eqb-true}
 use Rattle.std.proofs.Math.Bool.{false}
 use Rattle.std.proofs.lemmas.Bool.{lt-leb}
@@ -11,8 +11,10 @@ use Rattle.registers.specs.declared.register.AccessWidth.TheVariants.{Byte, Word
 use Rattle.registers.specs.declared.register.Direction.{Direction}
 use Rattle.registers.specs.declared.register.Direction.TheVariants.{Reading, Writing}
 use Rattle.registers.specs.declared.register.Register.TheVariants.{Reserved}
-use Rattle.registers.specs.declared.register.Access.TheVariants.{To, Refused}
-use Rattle.registers.specs.Registers.{bytes_of, dword, qword, takes, Kind, identification, ctlr, typer, iidr, bank, Row, map, widths_for, holds, register_at, lookup}
+use Rattle.registers.specs.declared.register.Kind.{Kind}
+use Rattle.registers.specs.declared.register.Kind.TheVariants.{Bank}
+use Rattle.registers.specs.declared.register.Row.{Row}
+use Rattle.registers.specs.Registers.{bytes_of, dword, qword, takes, map, widths_for, holds, register_at, lookup}
 use Rattle.registers.specs.FrameLaws.{words, is_register, needs_another, by_width, reached, in_words, joined, ranges}
 
 -- a range that the offset has not reached
@@ -35,19 +37,19 @@ held [] o = false
 held (r ∷ rs) o = cond (holds r o) true (held rs o)
 
 no_reserved : (k : Kind) (at : ℕ) (w : AccessWidth) → register_at k at w ≡ Reserved → ⊥
-no_reserved identification at w e = let z : ◌≡◌ {A = ℕ} 0 1 = cc in omega arith
-no_reserved ctlr at w e = let z : ◌≡◌ {A = ℕ} 0 1 = cc in omega arith
-no_reserved typer at w e = let z : ◌≡◌ {A = ℕ} 0 1 = cc in omega arith
-no_reserved iidr at w e = let z : ◌≡◌ {A = ℕ} 0 1 = cc in omega arith
-no_reserved (bank b) at w e = let z : ◌≡◌ {A = ℕ} 0 1 = cc in omega arith
+no_reserved Kind.Identification at w e = let z : ◌≡◌ {A = ℕ} 0 1 = cc in omega arith
+no_reserved Kind.Ctlr at w e = let z : ◌≡◌ {A = ℕ} 0 1 = cc in omega arith
+no_reserved Kind.Typer at w e = let z : ◌≡◌ {A = ℕ} 0 1 = cc in omega arith
+no_reserved Kind.Iidr at w e = let z : ◌≡◌ {A = ℕ} 0 1 = cc in omega arith
+no_reserved (Bank b) at w e = let z : ◌≡◌ {A = ℕ} 0 1 = cc in omega arith
 
-unheld : (d : Direction) (rs : List Row) (o : ℕ) (w : AccessWidth) → lookup d rs o w ≡ To Reserved ↔ held rs o ≡ false
+unheld : (d : Direction) (rs : List Row) (o : ℕ) (w : AccessWidth) → lookup d rs o w ≡ Ok Reserved ↔ held rs o ≡ false
 unfolding held
 unheld d [] o w = ((λ e. refl), (λ e. refl))
 unheld d (r ∷ rs) o w = go (holds r o) (takes (widths_for d r.reads r.writes) w) (unheld d rs o w)
   where
-    go : (h t : Bool) → (lookup d rs o w ≡ To Reserved ↔ held rs o ≡ false)
-        → cond h (cond t (To (register_at r.kind (o - r.from) w)) (Refused InvalidWidth)) (lookup d rs o w) ≡ To Reserved ↔ cond h true (held rs o) ≡ false
+    go : (h t : Bool) → (lookup d rs o w ≡ Ok Reserved ↔ held rs o ≡ false)
+        → cond h (cond t (Ok (register_at r.kind (o - r.from) w)) (Err InvalidWidth)) (lookup d rs o w) ≡ Ok Reserved ↔ cond h true (held rs o) ≡ false
     go true true e = ((λ p. let q : register_at r.kind (o - r.from) w ≡ Reserved = cc in absurd (no_reserved r.kind (o - r.from) w q)), (λ p. cc))
     go true false e = ((λ p. cc), (λ p. cc))
     go false t e = e
@@ -64,7 +66,7 @@ held_is o =
     whole false = refl
 
 -- an access reads 0 and ignores writes exactly where no register lies, at any width and in both directions
-pub reserved : (d : Direction) (o : ℕ) (w : AccessWidth) → lookup d map o w ≡ To Reserved ↔ is_register o ≡ false
+pub reserved : (d : Direction) (o : ℕ) (w : AccessWidth) → lookup d map o w ≡ Ok Reserved ↔ is_register o ≡ false
 reserved d o w = rw (← held_is o) (unheld d map o w)
 
 -- ---- which width is needed
@@ -74,14 +76,14 @@ refuses : Direction → List Row → ℕ → AccessWidth → Bool
 refuses d [] o w = false
 refuses d (r ∷ rs) o w = cond (holds r o) (not (takes (widths_for d r.reads r.writes) w)) (refuses d rs o w)
 
-decided : (d : Direction) (rs : List Row) (o : ℕ) (w : AccessWidth) → lookup d rs o w ≡ cond (refuses d rs o w) (Refused InvalidWidth) (To (reached (lookup d rs o w)))
+decided : (d : Direction) (rs : List Row) (o : ℕ) (w : AccessWidth) → lookup d rs o w ≡ cond (refuses d rs o w) (Err InvalidWidth) (Ok (reached (lookup d rs o w)))
 unfolding refuses
 decided d [] o w = refl
 decided d (r ∷ rs) o w = go (holds r o) (takes (widths_for d r.reads r.writes) w) (decided d rs o w)
   where
-    go : (h t : Bool) → lookup d rs o w ≡ cond (refuses d rs o w) (Refused InvalidWidth) (To (reached (lookup d rs o w)))
-        → cond h (cond t (To (register_at r.kind (o - r.from) w)) (Refused InvalidWidth)) (lookup d rs o w)
-        ≡ cond (cond h (not t) (refuses d rs o w)) (Refused InvalidWidth) (To (reached (cond h (cond t (To (register_at r.kind (o - r.from) w)) (Refused InvalidWidth)) (lookup d rs o w))))
+    go : (h t : Bool) → lookup d rs o w ≡ cond (refuses d rs o w) (Err InvalidWidth) (Ok (reached (lookup d rs o w)))
+        → cond h (cond t (Ok (register_at r.kind (o - r.from) w)) (Err InvalidWidth)) (lookup d rs o w)
+        ≡ cond (cond h (not t) (refuses d rs o w)) (Err InvalidWidth) (Ok (reached (cond h (cond t (Ok (register_at r.kind (o - r.from) w)) (Err InvalidWidth)) (lookup d rs o w))))
     go true true e = refl
     go true false e = refl
     go false t e = e
@@ -148,9 +150,9 @@ module _ (o : ℕ) (w : AccessWidth) where
 pub width_decides : (d : Direction) (o : ℕ) (w : AccessWidth) → lookup d map o w ≡ by_width d o w (reached (lookup d map o w))
 width_decides d o w = rw (← refuses_is o w d) (decided d map o w)
 
-pub width_refused : (d : Direction) (o : ℕ) (w : AccessWidth) → lookup d map o w ≡ Refused InvalidWidth ↔ needs_another d o w ≡ true
+pub width_refused : (d : Direction) (o : ℕ) (w : AccessWidth) → lookup d map o w ≡ Err InvalidWidth ↔ needs_another d o w ≡ true
 width_refused d o w = go (needs_another d o w) (width_decides d o w)
   where
-    go : (b : Bool) → lookup d map o w ≡ cond b (Refused InvalidWidth) (To (reached (lookup d map o w))) → lookup d map o w ≡ Refused InvalidWidth ↔ b ≡ true
+    go : (b : Bool) → lookup d map o w ≡ cond b (Err InvalidWidth) (Ok (reached (lookup d map o w))) → lookup d map o w ≡ Err InvalidWidth ↔ b ≡ true
     go true e = ((λ r. refl), (λ t. e))
     go false e = ((λ r. cc), (λ t. cc))

@@ -1,5 +1,5 @@
 -- The register that an access reaches is the one that lies at its offset.
-use Rattle.std.specs.Prelude.{ℕ, ◌+◌, ◌-◌, ◌*◌, ◌/◌, ◌%◌, ◌≡◌, refl, Bool, true, false, cond, List, [], ◌∷◌}
+use Rattle.std.specs.Prelude.{ℕ, ◌+◌, ◌-◌, ◌*◌, ◌/◌, ◌%◌, ◌≡◌, refl, Bool, true, false, cond, List, [], ◌∷◌, Ok, Err}
 use Rattle.std.proofs.Common.{◌∙◌}
 use native.Mathlib.Omega.{arith}
 use Rattle.theory.specs.Bools.{both}
@@ -15,8 +15,8 @@ use Rattle.registers.specs.declared.register.AccessWidth.{AccessWidth}
 use Rattle.registers.specs.declared.register.Direction.{Direction}
 use Rattle.registers.specs.declared.register.Register.{Register}
 use Rattle.registers.specs.declared.register.Register.TheVariants.{Identification, Ctlr, Typer, Iidr, Fields, Reserved}
-use Rattle.registers.specs.declared.register.Access.TheVariants.{To, Refused}
-use Rattle.registers.specs.Registers.{bytes_of, takes, Row, map, widths_for, in_row, holds, register_at, lookup}
+use Rattle.registers.specs.declared.register.Row.{Row}
+use Rattle.registers.specs.Registers.{bytes_of, takes, map, widths_for, in_row, holds, register_at, lookup}
 use Rattle.registers.specs.MapLaws.{flag_bank}
 use Rattle.registers.specs.FrameLaws.{joined, ranges}
 use Rattle.registers.specs.FrameMap.{register_there}
@@ -26,13 +26,13 @@ register_in : List Row → ℕ → AccessWidth → Register
 register_in [] o w = Reserved
 register_in (r ∷ rs) o w = cond (holds r o) (register_at r.kind (o - r.from) w) (register_in rs o w)
 
-first-row : (d : Direction) (rs : List Row) (o : ℕ) (w : AccessWidth) (g : Register) → lookup d rs o w ≡ To g → g ≡ register_in rs o w
+first-row : (d : Direction) (rs : List Row) (o : ℕ) (w : AccessWidth) (g : Register) → lookup d rs o w ≡ Ok g → g ≡ register_in rs o w
 unfolding register_in
 first-row d [] o w g e = cc
 first-row d (r ∷ rs) o w g e = go (holds r o) (takes (widths_for d r.reads r.writes) w) e (first-row d rs o w g)
   where
-    go : (h t : Bool) → cond h (cond t (To (register_at r.kind (o - r.from) w)) (Refused InvalidWidth)) (lookup d rs o w) ≡ To g
-        → (lookup d rs o w ≡ To g → g ≡ register_in rs o w) → g ≡ cond h (register_at r.kind (o - r.from) w) (register_in rs o w)
+    go : (h t : Bool) → cond h (cond t (Ok (register_at r.kind (o - r.from) w)) (Err InvalidWidth)) (lookup d rs o w) ≡ Ok g
+        → (lookup d rs o w ≡ Ok g → g ≡ register_in rs o w) → g ≡ cond h (register_at r.kind (o - r.from) w) (register_in rs o w)
     go true true f rest = cc
     go true false f rest = cc
     go false t f rest = rest f
@@ -91,5 +91,5 @@ module _ (o : ℕ) (w : AccessWidth) where
       eights k = omega arith
 
 -- the register that an access reaches is the one that lies there
-pub register_there_lem : (d : Direction) (o : ℕ) (w : AccessWidth) (g : Register) → lookup d map o w ≡ To g → g ≡ register_there o w
+pub register_there_lem : (d : Direction) (o : ℕ) (w : AccessWidth) (g : Register) → lookup d map o w ≡ Ok g → g ≡ register_there o w
 register_there_lem d o w g e = first-row d map o w g e ∙ rows o w

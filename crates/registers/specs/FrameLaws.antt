@@ -1,6 +1,6 @@
 -- The frame, offset by offset, in the paper's words: where a register lies, and which width it needs. These definitions do not look at
 -- the map, so that a wrong row of it breaks a law.
-use Rattle.std.specs.Prelude.{ℕ, ◌+◌, ◌-◌, ◌*◌, ◌%◌, ◌≤◌, ◌<◌, ◌≡◌, refl, Bool, true, not, ◌&&◌, ◌||◌, cond, ◌↔◌, eqb}
+use Rattle.std.specs.Prelude.{ℕ, ◌+◌, ◌-◌, ◌*◌, ◌%◌, ◌≤◌, ◌<◌, ◌≡◌, refl, Bool, true, not, ◌&&◌, ◌||◌, cond, ◌↔◌, eqb, Ok, Err}
 use Rattle.std.proofs.Common.{sym, ◌∙◌, arith, eqb-true, eq-eqb}
 use Rattle.std.proofs.Math.Bool.{false}
 use Rattle.std.proofs.Math.Logic.{by_cases}
@@ -16,9 +16,7 @@ use Rattle.registers.specs.declared.register.Direction.{Direction}
 use Rattle.registers.specs.declared.register.Direction.TheVariants.{Reading, Writing}
 use Rattle.registers.specs.declared.register.Register.{Register}
 use Rattle.registers.specs.declared.register.Register.TheVariants.{Identification, Ctlr, Typer, Iidr, Reserved}
-use Rattle.registers.specs.declared.register.Access.{Access}
-use Rattle.registers.specs.declared.register.Access.TheVariants.{To, Refused}
-use Rattle.registers.specs.Registers.{bytes_of, map, in_row, lookup}
+use Rattle.registers.specs.Registers.{Access, bytes_of, map, in_row, lookup}
 
 -- at a multiple of 4, from lo up to below end
 abbrev pub words : ℕ → ℕ → ℕ → Bool
@@ -41,12 +39,12 @@ needs_another d o w = cond (needs_dword d o) (not (eqb (bytes_of w) 4)) (within 
 
 -- such an access is refused 4; any other reaches the register
 abbrev pub by_width : Direction → ℕ → AccessWidth → Register → Access
-by_width d o w g = cond (needs_another d o w) (Refused InvalidWidth) (To g)
+by_width d o w g = cond (needs_another d o w) (Err InvalidWidth) (Ok g)
 
 -- the register of an access that is not refused
 abbrev pub reached : Access → Register
-reached (To g) = g
-reached (Refused f) = Reserved
+reached (Ok g) = g
+reached (Err f) = Reserved
 
 -- ---- the registers with no INTID
 
@@ -63,9 +61,9 @@ fixed_places Writing Dword = (refl, refl, refl)
 fixed_places Writing Qword = (refl, refl, refl)
 
 -- the twelve identification registers lie from 0xffd0 on, one each word
-pub identification_places : (d : Direction) (k : ℕ) → k < 12 → lookup d map (0xffd0 + 4 * k) Dword ≡ To (Identification k)
-identification_places Reading = everywhere (λ k. lookup Reading map (0xffd0 + 4 * k) Dword) (λ k. To (Identification k)) 12 refl
-identification_places Writing = everywhere (λ k. lookup Writing map (0xffd0 + 4 * k) Dword) (λ k. To (Identification k)) 12 refl
+pub identification_places : (d : Direction) (k : ℕ) → k < 12 → lookup d map (0xffd0 + 4 * k) Dword ≡ Ok (Identification k)
+identification_places Reading = everywhere (λ k. lookup Reading map (0xffd0 + 4 * k) Dword) (λ k. Ok (Identification k)) 12 refl
+identification_places Writing = everywhere (λ k. lookup Writing map (0xffd0 + 4 * k) Dword) (λ k. Ok (Identification k)) 12 refl
 
 -- ---- ranges of offsets
 

@@ -29,7 +29,7 @@ use Rattle.slot.specs.Slots.{after_effect}
 use Rattle.slot.specs.Guest.{flag_number, field_number, alike, itself_then, shows_then, can_list}
 
 abbrev pub made : Life → Settings → InterruptRecord → InterruptRecord
-made l g r = record { intid = r.intid; life = l; priority = g.0; trigger = g.1; routed = g.2; route = g.3; masked = g.4; cpu_target_mask = g.5 }
+made l g r = record { intid = r.intid; life = l; priority = g.0; trigger = g.1; route = g.2; cpu_target_mask = g.3 }
 
 -- what a bank shows after an operation is what the operation's rows say
 pub shown-after : (b : Bank) (o : Operation) (r : InterruptRecord) → shown b (applied o r) ≡ shown b (made (flags_after o (is_level r) r.life) (settings_after o r) r)

@@ -1,5 +1,5 @@
 -- What a written field does to what no bank shows.
-use Rattle.std.specs.Prelude.{ℕ, ◌%◌, ◌≡◌, refl, Bool, true, false, not, ◌&&◌, cond}
+use Rattle.std.specs.Prelude.{ℕ, ◌%◌, ◌≡◌, refl, Bool, true, false, not, ◌&&◌, cond, is_some}
 use Rattle.std.proofs.Common.{sym, ap, ◌∙◌, true≢false}
 use Rattle.std.proofs.Math.Bool.{and-true, and-false}
 use Rattle.attributes.specs.Affinity.{from_mpidr}
@@ -31,7 +31,7 @@ operated : (o : Operation) (mark mask : Bool) (r : InterruptRecord)
     → (flags_after o (is_level r) r.life).inflight ≡ r.life.inflight
     → line (flags_after o (is_level r) r.life) ≡ line r.life
     → redelivery (flags_after o (is_level r) r.life) ≡ (redelivery r.life && not mark)
-    → (settings_after o r).4 ≡ (r.masked && not mask)
+    → is_some (settings_after o r).3 ≡ (is_some r.cpu_target_mask && not mask)
     → Hidden mark mask r (applied o r)
 operated o mark mask r f l d m =
     let e = flags-after o r in
@@ -40,7 +40,7 @@ operated o mark mask r f l d m =
       level = ap line e ∙ l;
       intid = intid_kept o r;
       mark = ap redelivery e ∙ d;
-      masked = ap (λ (x : Settings). x.4) (settings-after o r) ∙ m;
+      masked = ap (λ (x : Settings). is_some x.3) (settings-after o r) ∙ m;
     }
 
 -- one that leaves all four
@@ -48,7 +48,7 @@ leaves : (o : Operation) (r : InterruptRecord)
     → (flags_after o (is_level r) r.life).inflight ≡ r.life.inflight
     → line (flags_after o (is_level r) r.life) ≡ line r.life
     → redelivery (flags_after o (is_level r) r.life) ≡ redelivery r.life
-    → (settings_after o r).4 ≡ r.masked
+    → is_some (settings_after o r).3 ≡ is_some r.cpu_target_mask
     → Hidden false false r (applied o r)
 leaves o r f l d m = operated o false false r f l (d ∙ sym (and-true _)) (m ∙ sym (and-true _))
 
@@ -64,7 +64,7 @@ row fixed (Replace Group) v r e = same r
 row fixed (Replace Priority) v r e = leaves (SetPriority (record { 0 = v % 256 })) r refl refl refl refl
 row fixed (Replace Configuration) v r e = leaves (SetTrigger (trigger_in v)) r refl refl refl refl
 row true (Replace Route) v r e = same r
-row false (Replace Route) v r e = operated (SetRoute (from_mpidr v)) false true r refl refl (sym (and-true _)) (sym (and-false r.masked))
+row false (Replace Route) v r e = operated (SetRoute (from_mpidr v)) false true r refl refl (sym (and-true _)) (sym (and-false (is_some r.cpu_target_mask)))
 
 -- a field that does not act drops nothing
 idle : (fixed : Bool) (a : Bank) (v : ℕ) → acts a v ≡ false → (drops_mark a v ≡ false) × (drops_mask fixed a ≡ false)

@@ -1,5 +1,5 @@
 -- What a written field leaves of what no bank shows.
-use Rattle.std.specs.Prelude.{◌≡◌, Bool, not, ◌&&◌}
+use Rattle.std.specs.Prelude.{◌≡◌, Bool, not, ◌&&◌, is_some}
 use Rattle.life.specs.Life.{redelivery, line}
 use Rattle.interrupt.specs.declared.interrupt.InterruptRecord.{InterruptRecord}
 
@@ -9,4 +9,4 @@ pub record Hidden (unmarks unmasks : Bool) (was is : InterruptRecord) : Type 0 w
   pub level : line is.life ≡ line was.life
   pub intid : is.intid ≡ was.intid
   pub mark : redelivery is.life ≡ (redelivery was.life && not unmarks)
-  pub masked : is.masked ≡ (was.masked && not unmasks)
+  pub masked : is_some is.cpu_target_mask ≡ (is_some was.cpu_target_mask && not unmasks)

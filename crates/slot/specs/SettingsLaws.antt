@@ -1,5 +1,5 @@
 -- What may be handed over as an SPI's settings, and when something stays wherever one of them is set.
-use Rattle.std.specs.Prelude.{ℕ, ◌<◌, ◌≡◌, true, false}
+use Rattle.std.specs.Prelude.{ℕ, ◌<◌, ◌≡◌, Some, None}
 use Rattle.std.proofs.Common.{arith}
 use Rattle.attributes.specs.Affinity.{affinity}
 use Rattle.attributes.specs.AffinityLaws.{Bytes}
@@ -23,8 +23,8 @@ zero_bytes = record { byte3 = omega arith; byte2 = omega arith; byte1 = omega ar
 
 -- P stays where one of the settings is set, to bytes
 pub record Stays (P : Settings → Type 0) : Type 0 where
-  pub priority : (p : Priority) (s : Settings) → p.0 < 256 → P s → P (p, s.1, s.2, s.3, s.4, s.5)
-  pub trigger : (t : TriggerMode) (s : Settings) → P s → P (s.0, t, s.2, s.3, s.4, s.5)
-  pub route : (a : GicAffinity) (s : Settings) → Bytes a → P s → P (s.0, s.1, true, a, false, 0)
-  pub unroute : (s : Settings) → P s → P (s.0, s.1, false, affinity 0 0 0 0, s.4, s.5)
-  pub mask : (m : ℕ) (s : Settings) → m < 256 → P s → P (s.0, s.1, false, affinity 0 0 0 0, true, m)
+  pub priority : (p : Priority) (s : Settings) → p.0 < 256 → P s → P (p, s.1, s.2, s.3)
+  pub trigger : (t : TriggerMode) (s : Settings) → P s → P (s.0, t, s.2, s.3)
+  pub route : (a : GicAffinity) (s : Settings) → Bytes a → P s → P (s.0, s.1, Some a, None)
+  pub unroute : (s : Settings) → P s → P (s.0, s.1, None, s.3)
+  pub mask : (m : ℕ) (s : Settings) → m < 256 → P s → P (s.0, s.1, None, Some m)

@@ -14,14 +14,14 @@ use ownership::ownership::Ownership;
 
 // Only the functions below make a slot or change one. Nothing puts one into a Distributor by value from outside; on a lent image the
 // bytes decide, and `image` makes its slots from them.
-#[derive(Clone, Copy)]
+#[derive(Clone, Copy, Debug, PartialEq, Eq)]
 pub struct Slot {
     interrupt: InterruptRecord,
     ownership: Ownership,
 }
 
 // What a written field leaves of an SPI, and whether the SPI is listed.
-#[derive(Clone, Copy)]
+#[derive(Clone, Copy, Debug, PartialEq, Eq)]
 pub struct FieldWritten {
     pub slot: Slot,
     pub listed: bool,
@@ -46,8 +46,8 @@ impl Slot {
         ensures { (result.interrupt ≡ interrupt) × (result.ownership ≡ ownership) }
     {
         Slot {
-            interrupt: interrupt,
-            ownership: ownership,
+            interrupt,
+            ownership,
         }
     }
 
@@ -87,7 +87,7 @@ impl Slot {
             FieldWritten {
                 slot: Slot {
                     interrupt: next,
-                    ownership: ownership,
+                    ownership,
                 },
                 listed: bank.lists() & next.deliverable(),
             }

@@ -1,5 +1,5 @@
 -- What the host is answered: of each question what the guest sees or what the host did, and of each change when it is refused.
-use Rattle.std.specs.Prelude.{ℕ, ◌+◌, ◌*◌, ◌/◌, ◌≡◌, Bool, true, false, not, ◌&&◌, ◌||◌, cond, [], ◌∷◌}
+use Rattle.std.specs.Prelude.{ℕ, ◌+◌, ◌*◌, ◌/◌, ◌≡◌, Bool, true, false, not, ◌&&◌, ◌||◌, cond, [], ◌∷◌, Ok, Err, Some, None, Option}
 use Rattle.std.proofs.Math.Path.{refl, ap}
 use Rattle.std.proofs.Common.{◌∙◌}
 use Rattle.std.proofs.Math.Bool.{or-true}
@@ -12,7 +12,6 @@ use Rattle.attributes.specs.declared.attributes.InterruptState.{InterruptState}
 use Rattle.attributes.specs.Affinity.{mpidr_of}
 use Rattle.attributes.specs.States.{level_of, state_of, state_number}
 use Rattle.interrupt.specs.declared.interrupt.InterruptRecord.{InterruptRecord}
-use Rattle.interrupt.specs.declared.interrupt.Route.{Route}
 use Rattle.interrupt.specs.Records.{fresh, with_life, line_pulsed, state_in, deliverable_in, trigger_to, route_to, unrouted, mask_to, route_in, mask_in}
 use Rattle.operation.specs.declared.operation.Operation.{Operation}
 use Rattle.operation.specs.declared.operation.Operation.TheVariants.{SetActive, ClearDeliveryState, MarkInflight, Pulse, SetTrigger, SetRoute, ClearRoute}
@@ -31,13 +30,12 @@ use Rattle.changes.specs.Changes.{happens, record_after}
 use Rattle.slot.specs.Slots.{fresh_spi, after_effect, field_written, changed}
 use Rattle.spi.specs.declared.question.Question.{Question}
 use Rattle.spi.specs.declared.question.Question.TheVariants.{Intid, Enabled, Pending, Active, State, HasDeliveryState, Priority, Trigger, CpuTargetMask, Deliverable, IsClaimed, HasFixedRoute}
-use Rattle.spi.specs.declared.question.SlotAnswer.{SlotAnswer}
 use Rattle.spi.specs.Questions.{route_values, question_answer, told_question}
 use Rattle.spi.specs.ChangeAnswers.{change_answer}
 
 -- what a question to an SPI of the table is told, and an answer of one number
 abbrev asked : Question → Slot → Answer
-asked q s = told_question (question_answer q (SlotAnswer.Done s))
+asked q s = told_question (question_answer q (Ok s))
 
 abbrev number : ℕ → Answer
 number n = done (n ∷ [])
@@ -53,7 +51,7 @@ abbrev spi : InterruptRecord → Bool → Bool → Slot
 spi r claim mark = record { interrupt = r; ownership = record { explicitly_owned = claim; fixed_route = mark } }
 
 -- without an SPI every question gets the refusal
-pub no_spi_lem : (q : Question) (f : Refusal) → told_question (question_answer q (SlotAnswer.Refused f)) ≡ told_refusal f
+pub no_spi_lem : (q : Question) (f : Refusal) → told_question (question_answer q (Err f)) ≡ told_refusal f
 no_spi_lem q f = refl
 
 -- ---- what the guest sees
@@ -62,9 +60,9 @@ trigger_bit : (t : TriggerMode) → bit (not (level_of t)) ≡ edge_field t / 2
 trigger_bit Edge = refl
 trigger_bit Level = refl
 
-route_number_lem : (a : Route) → number_or_zero (done (route_values a)) ≡ route_bits a
-route_number_lem (Route.To a) = refl
-route_number_lem Route.Unset = refl
+route_number_lem : (a : Option GicAffinity) → number_or_zero (done (route_values a)) ≡ route_bits a
+route_number_lem (Some a) = refl
+route_number_lem None = refl
 
 state_sum : (p a : Bool) → state_number (state_of p a) ≡ bit p + 2 * bit a
 state_sum false false = refl

@@ -1,24 +1,21 @@
 -- What the host asks about one SPI, and what is answered.
-use Rattle.std.specs.Prelude.{ℕ, not, List, [], ◌∷◌}
-use Rattle.identifiers.specs.Answer.{Answer, done, told_refusal, raw_of}
+use Rattle.std.specs.Prelude.{ℕ, not, List, [], ◌∷◌, Result, Ok, Err, Option, Some, None, unwrap_or}
+use Rattle.identifiers.specs.Answer.{Answer, told, raw_of}
 use Rattle.attributes.specs.Affinity.{mpidr_of}
 use Rattle.attributes.specs.States.{level_of, state_number}
 use Rattle.life.specs.Life.{has_delivery}
 use Rattle.interrupt.specs.Records.{state_in, route_in, mask_in, deliverable_in}
-use Rattle.interrupt.specs.declared.interrupt.Route.{Route}
-use Rattle.interrupt.specs.declared.interrupt.TargetMask.{TargetMask}
 use Rattle.bank.specs.Banks.{bit}
 use Rattle.slot.specs.declared.slot.Slot.{Slot}
 use Rattle.spi.specs.declared.question.Question.{Question}
 use Rattle.spi.specs.declared.question.Question.TheVariants.{Intid, Enabled, Pending, Active, State, HasDeliveryState, Priority, Trigger, CpuTargetMask, Deliverable, IsClaimed, HasFixedRoute}
 use Rattle.spi.specs.declared.question.Value.{Value}
-use Rattle.spi.specs.declared.question.SlotAnswer.{SlotAnswer}
-use Rattle.spi.specs.declared.question.QuestionAnswer.{QuestionAnswer}
+use Rattle.identifiers.specs.declared.error.Refusal.{Refusal}
+use Rattle.attributes.specs.declared.attributes.GicAffinity.{GicAffinity}
 
 -- the mask, or 1 where there is none
-abbrev pub mask_or_one : TargetMask → ℕ
-mask_or_one (TargetMask.Cores m) = m
-mask_or_one TargetMask.Unset = 1
+abbrev pub mask_or_one : Option ℕ → ℕ
+mask_or_one m = unwrap_or m 1
 
 abbrev pub value_of : Question → Slot → Value
 value_of Intid s = Value.Intid (raw_of s.interrupt.intid)
@@ -37,9 +34,9 @@ value_of HasFixedRoute s = Value.Flag s.ownership.fixed_route
 
 -- ---- in the paper's terms
 
-abbrev pub route_values : Route → List ℕ
-route_values (Route.To a) = mpidr_of a ∷ []
-route_values Route.Unset = []
+abbrev pub route_values : Option GicAffinity → List ℕ
+route_values (Some a) = mpidr_of a ∷ []
+route_values None = []
 
 -- a trigger is 1 for edge
 abbrev pub told_value : Value → List ℕ
@@ -52,10 +49,9 @@ told_value (Value.Route r) = route_values r
 told_value (Value.Mask m) = m ∷ []
 
 -- the slot answers; where there is none, every question gets the refusal
-abbrev pub question_answer : Question → SlotAnswer → QuestionAnswer
-question_answer q (SlotAnswer.Done s) = QuestionAnswer.Done (value_of q s)
-question_answer q (SlotAnswer.Refused f) = QuestionAnswer.Refused f
+abbrev pub question_answer : Question → Result Slot Refusal → Result Value Refusal
+question_answer q (Ok s) = Ok (value_of q s)
+question_answer q (Err f) = Err f
 
-abbrev pub told_question : QuestionAnswer → Answer
-told_question (QuestionAnswer.Done v) = done (told_value v)
-told_question (QuestionAnswer.Refused f) = told_refusal f
+abbrev pub told_question : Result Value Refusal → Answer
+told_question = told told_value

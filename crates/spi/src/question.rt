@@ -1,13 +1,11 @@
-// What the host asks about an SPI, named, and what is answered.
+// What the host asks about an SPI, as a value that a sequence of calls can hold, and what is answered.
 ghost use Rattle.std.specs.Prelude.{◌≡◌};
-ghost use Rattle.spi.specs.Questions.{mask_or_one, value_of, question_answer};
+ghost use Rattle.spi.specs.Questions.{value_of};
 
-use attributes::attributes::{InterruptState, Priority, TriggerMode};
-use identifiers::error::Refusal;
-use interrupt::interrupt::{Route, TargetMask};
+use attributes::attributes::{GicAffinity, InterruptState, Priority, TriggerMode};
 use slot::slot::Slot;
 
-#[derive(Clone, Copy)]
+#[derive(Clone, Copy, Debug, PartialEq, Eq)]
 pub enum Question {
     Intid,
     Enabled,
@@ -25,38 +23,15 @@ pub enum Question {
 }
 
 // What a question is answered with.
-#[derive(Clone, Copy)]
+#[derive(Clone, Copy, Debug, PartialEq, Eq)]
 pub enum Value {
     Intid(u32),
     Flag(bool),
     State(InterruptState),
     Priority(Priority),
     Trigger(TriggerMode),
-    Route(Route),
+    Route(Option<GicAffinity>),
     Mask(u8),
-}
-
-// The slot of an SPI, or refusal 1.
-#[derive(Clone, Copy)]
-pub enum SlotAnswer {
-    Done(Slot),
-    Refused(Refusal),
-}
-
-#[derive(Clone, Copy)]
-pub enum QuestionAnswer {
-    Done(Value),
-    Refused(Refusal),
-}
-
-// Where there is no target mask, core 0 is the target.
-fn mask_or_one(mask: TargetMask) -> u8
-    ensures { result ≡ mask_or_one mask }
-{
-    match mask {
-        TargetMask::Cores(m) => m,
-        TargetMask::Unset => 1,
-    }
 }
 
 pub fn value_of(slot: Slot, question: Question) -> Value
@@ -73,20 +48,10 @@ pub fn value_of(slot: Slot, question: Question) -> Value
         Question::Priority => Value::Priority(interrupt.priority()),
         Question::Trigger => Value::Trigger(interrupt.trigger()),
         Question::Route => Value::Route(interrupt.route()),
-        Question::CpuTargetMask => Value::Mask(mask_or_one(interrupt.cpu_target_mask())),
+        // Where there is no target mask, core 0 is the target.
+        Question::CpuTargetMask => Value::Mask(interrupt.cpu_target_mask().unwrap_or(1)),
         Question::Deliverable => Value::Flag(interrupt.deliverable()),
         Question::IsClaimed => Value::Flag(slot.ownership().explicitly_owned),
         Question::HasFixedRoute => Value::Flag(slot.ownership().fixed_route),
-    }
-}
-
-impl SlotAnswer {
-    pub fn ask(self, question: Question) -> QuestionAnswer
-        ensures { result ≡ question_answer question self }
-    {
-        match self {
-            SlotAnswer::Done(slot) => QuestionAnswer::Done(value_of(slot, question)),
-            SlotAnswer::Refused(refusal) => QuestionAnswer::Refused(refusal),
-        }
     }
 }

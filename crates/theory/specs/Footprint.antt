@@ -1,6 +1,6 @@
 -- A machine that is seen through what it holds under each name. From four facts of ONE call, never of two, follow both theorems on
 -- order: replay, and reordering.
-use Rattle.std.specs.Prelude.{ℕ, ◌<◌, ◌≡◌, refl, Bool, true, false, cond, List, [], ◌∷◌, length}
+use Rattle.std.specs.Prelude.{ℕ, ◌<◌, ◌≡◌, refl, Bool, true, false, cond, List, [], ◌∷◌, length, Ok}
 use Rattle.std.proofs.Common.{sym, ◌∙◌}
 use Rattle.std.proofs.Math.ListN.{get_elem?}
 use Rattle.theory.specs.Bools.{refuted}

@@ -1,6 +1,6 @@
 -- Calls that may be reordered: where any two calls that share no name commute, a matching changes neither the end state nor an answer.
 use Prim.Native.Nat.{ℕ, zero, suc, ◌<◌, pred, suc-le-suc}
-use Rattle.std.specs.Prelude.{◌≡◌, refl, ◌≢◌, Bool, length}
+use Rattle.std.specs.Prelude.{◌≡◌, refl, ◌≢◌, Bool, length, Ok}
 use Rattle.std.proofs.Math.Path.{sym, ap}
 use Rattle.std.proofs.Common.{◌∙◌, le_of_suc-le-suc, not-suc-le-zero, suc-ne-zero, zero-lt-suc, arith}
 use mathlib.Core.List.{List, [], ◌∷◌}

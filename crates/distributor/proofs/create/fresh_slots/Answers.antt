@@ -1,21 +1,13 @@
-use Rattle.std.proofs.Common.{◌≡◌, ap, ◌∙◌, arith}
+-- Each place is what the closure makes at it.
+use Rattle.std.proofs.Common.{ℕ, ◌+◌, ◌<◌, ◌≡◌, slice_index_or, rules, arith}
 use Rattle.place.specs.Table.{capacity}
 use Rattle.slot.specs.Slots.{fresh_spi}
-use Rattle.distributor.proofs.Creating.{none_made, all_made, one_made}
+use Rattle.slot.specs.declared.slot.Slot.{Slot}
+use Rattle.distributor.proofs.Creating.{tabled}
 use Rattle.distributor.proofs.create.fresh_slots.Goals as goal
-
-pub loop-p-init : goal.loop-p-init
-loop-p-init c = (omega arith, none_made c.fresh-slots.result (c.fresh-slots.ensures ∙ ap fresh_spi c.nth.ensures))
-
-pub loop-p-preserved : goal.loop-p-preserved
-loop-p-preserved c =
-    let l = c.loop-p in (
-      omega arith,
-      rw l.invariant.1 (one_made l.p c.nth-in-loop-p.result.0 c.fresh.result c.nth-in-loop-p.ensures (omega arith) c.fresh.ensures),
-    )
 
 pub returns : goal.returns
 returns c =
-    let l = c.loop-p in
-    let z : l.p ≡ capacity = omega arith in
-    rw z at l.invariant.1 ∙ all_made
+    let items = c.from_fn.ensures.items in
+    let made : (i : ℕ) (d : Slot) → i < capacity → slice_index_or c.from_fn.result i d ≡ fresh_spi (32 + i) = λ i d h. let z = items.at i d h in search rules in
+    tabled (λ p. fresh_spi (32 + p)) capacity c.from_fn.result items.long made

@@ -9,6 +9,3 @@ use Rattle.distributor.proofs.distributor.list_deliverable.Given as goal
 abbrev pub invariant-loop-i : goal.invariant-loop-i
 invariant-loop-i l =
     (32 ≤ l.i) × (l.i ≤ 32 + table_size l.d.spi_count) × LaidOut (passing (deliverable_at l.d.slots) 32 (l.i - 32)) l.initial.list l.list l.count
-
-abbrev pub decreases-loop-i : goal.decreases-loop-i
-decreases-loop-i l = l.end - l.i

@@ -8,9 +8,6 @@ use Rattle.distributor.proofs.distributor.read_fields.Given as goal
 
 abbrev pub invariant-loop-i : goal.invariant-loop-i
 invariant-loop-i l =
-    (min (max l.lo 32) (min (l.lo + l.m) (32 + table_size l.d.spi_count)) ≤ l.i) × (l.i ≤ min (l.lo + l.m) (32 + table_size l.d.spi_count))
-    × (l.value ≡ packed l.bank (shown_at (explicit l.d.config.spi_ownership) (table_size l.d.spi_count) l.bank l.d.slots) l.i (min (l.lo + l.m) (32 + table_size l.d.spi_count) - l.i))
-    × (l.value < (2 ^ bits_of l.bank) ^ (min (l.lo + l.m) (32 + table_size l.d.spi_count) - l.i))
-
-abbrev pub decreases-loop-i : goal.decreases-loop-i
-decreases-loop-i l = l.i
+    (min (max l.fn.fields.first 32) (min (l.fn.fields.first + l.fn.fields.count) (32 + table_size l.d.spi_count)) ≤ l.i) × (l.i ≤ min (l.fn.fields.first + l.fn.fields.count) (32 + table_size l.d.spi_count))
+    × (l.value ≡ packed l.fn.fields.bank (shown_at (explicit l.d.config.spi_ownership) (table_size l.d.spi_count) l.fn.fields.bank l.d.slots) l.i (min (l.fn.fields.first + l.fn.fields.count) (32 + table_size l.d.spi_count) - l.i))
+    × (l.value < (2 ^ bits_of l.fn.fields.bank) ^ (min (l.fn.fields.first + l.fn.fields.count) (32 + table_size l.d.spi_count) - l.i))

@@ -11,24 +11,24 @@ pub change_at-requires : goal.change_at-requires
 change_at-requires c =
     let a = c.args in
     let bytes : Bytes a.image.now = record { byte = λ i. search rules } in
-    (placed a.image.now c.in-Good.header a.intid c.in-Done.place.0 bytes c.in-Good.ensures c.in-Done.ensures).room
+    (placed a.image.now c.in-Some.header a.intid c.in-Ok.place bytes c.in-Some.ensures c.in-Ok.ensures).room
 
-pub returns-in-Done : goal.returns-in-Done
-returns-in-Done c =
+pub returns-in-Ok : goal.returns-in-Ok
+returns-in-Ok c =
     let a = c.args in
     let bytes : Bytes a.image.now = record { byte = λ i. search rules } in
-    let at = placed a.image.now c.in-Good.header a.intid c.in-Done.place.0 bytes c.in-Good.ensures c.in-Done.ensures in
-    c.change_at.ensures ∙ seen_in a.what a.intid a.image.now bytes at.good c.in-Done.place.0 at.has at.place
+    let at = placed a.image.now c.in-Some.header a.intid c.in-Ok.place bytes c.in-Some.ensures c.in-Ok.ensures in
+    c.change_at.ensures ∙ seen_in a.what a.intid a.image.now bytes at.good c.in-Ok.place at.has at.place
 
-pub returns-in-Refused : goal.returns-in-Refused
-returns-in-Refused c =
+pub returns-in-Err : goal.returns-in-Err
+returns-in-Err c =
     let a = c.args in
     let bytes : Bytes a.image.now = record { byte = λ i. search rules } in
-    let headed = header_good a.image.now c.in-Good.header c.in-Good.ensures in
-    let (out, what) = off_place (table_size (header_of a.image.now).spi_count) a.intid c.in-Refused.refusal (rw headed.header at c.in-Refused.ensures) in
+    let headed = header_good a.image.now c.in-Some.header c.in-Some.ensures in
+    let (out, what) = off_place (table_size (header_of a.image.now).spi_count) a.intid c.in-Err.refusal (rw headed.header at c.in-Err.ensures) in
     rw (c.refused.ensures, what) (seen_out a.what a.intid a.image.now bytes headed.good out)
 
-pub returns-in-Bad : goal.returns-in-Bad
-returns-in-Bad c =
+pub returns-in_default : goal.returns-in_default
+returns-in_default c =
     let a = c.args in
-    seen_bad a.what a.intid a.image.now (header_bad a.image.now c.in-Bad.ensures)
+    seen_bad a.what a.intid a.image.now (header_bad a.image.now c.in_default.ensures)

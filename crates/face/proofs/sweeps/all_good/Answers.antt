@@ -9,7 +9,7 @@ pub returns-then-not-is_good : goal.returns-then-not-is_good
 returns-then-not-is_good c =
     let a = c.args in
     let l = c.loop-i in
-    let at : c.nearest.result.0 ≡ l.i - 32 = omega arith in
+    let at : c.nearest.result ≡ l.i - 32 = omega arith in
     let bad = found_bad c.is_good.result (good_word (record_at a.image.now (l.i - 32))) (c.is_good.ensures ∙ (rw (c.word_at.ensures, at))) (ap not c.if-not-is_good.true) in
     sym (good_not (λ i. true) a.count a.image.now l.i l.invariant.0 (omega arith) refl bad)
 

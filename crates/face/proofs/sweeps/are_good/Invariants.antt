@@ -7,8 +7,8 @@ use Rattle.face.proofs.sweeps.are_good.Given as goal
 
 abbrev pub invariant-loop-i : goal.invariant-loop-i
 invariant-loop-i l =
-    (max l.lo 32 ≤ l.i) × (l.i ≤ max (max l.lo 32) (min (l.lo + l.m) (32 + l.count))) × (l.v ≡ l.value / (2 ^ bits_of l.bank) ^ (l.i - l.lo))
-    × GoodFrom (written l.count l.bank l.value l.lo l.m) (max l.lo 32) l.i l.image
+    (max l.fn.fields.first 32 ≤ l.i) × (l.i ≤ max (max l.fn.fields.first 32) (min (l.fn.fields.first + l.fn.fields.count) (32 + l.count))) × (l.v ≡ l.value / (2 ^ bits_of l.fn.fields.bank) ^ (l.i - l.fn.fields.first))
+    × GoodFrom (written l.count l.fn.fields.bank l.value l.fn.fields.first l.fn.fields.count) (max l.fn.fields.first 32) l.i l.image
 
 abbrev pub decreases-loop-i : goal.decreases-loop-i
 decreases-loop-i l = l.end - l.i

@@ -16,7 +16,7 @@ pub list_if-listed-requires : goal.list_if-listed-requires
 list_if-listed-requires c =
     let a = c.args in
     let l = c.loop-i in
-    let p = c.nearest-place.result.0 in
+    let p = c.nearest-place.result in
     let T = table (meant_at a.count a.image.now) in
     let t = deliverable_at T in
     let high : l.i < 32 + a.count = omega arith in
@@ -33,7 +33,7 @@ pub loop-i-preserved : goal.loop-i-preserved
 loop-i-preserved c =
     let a = c.args in
     let l = c.loop-i in
-    let p = c.nearest-place.result.0 in
+    let p = c.nearest-place.result in
     let T = table (meant_at a.count a.image.now) in
     let t = deliverable_at T in
     let high : l.i < 32 + a.count = omega arith in

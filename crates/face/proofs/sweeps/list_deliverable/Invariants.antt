@@ -9,6 +9,3 @@ use Rattle.face.proofs.sweeps.list_deliverable.Given as goal
 abbrev pub invariant-loop-i : goal.invariant-loop-i
 invariant-loop-i l =
     (32 ≤ l.i) × (l.i ≤ 32 + l.count) × LaidOut (passing (deliverable_at (table (meant_at l.count l.image))) 32 (l.i - 32)) l.initial.list l.list l.listed
-
-abbrev pub decreases-loop-i : goal.decreases-loop-i
-decreases-loop-i l = l.end - l.i

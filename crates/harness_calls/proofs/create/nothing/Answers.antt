@@ -3,4 +3,4 @@ use Rattle.std.proofs.Common.{◌∙◌}
 use Rattle.harness_calls.proofs.create.nothing.Goals as goal
 
 pub returns : goal.returns
-returns c = c.new-created.ensures.state ∙ (rw c.config.ensures)
+returns c = c.new.ensures.state ∙ (rw c.config.ensures)

@@ -3,7 +3,7 @@ use Rattle.std.proofs.Common.{ap, ◌∙◌}
 use Rattle.harness_calls.proofs.Performing.{of, unchanged_spi}
 use Rattle.harness_calls.proofs.run.change_spi.Goals as goal
 
-pub returns-in-Refused : goal.returns-in-Refused
-returns-in-Refused c =
+pub returns-in-Err : goal.returns-in-Err
+returns-in-Err c =
     let a = c.args in
-    unchanged_spi a.d a.raw a.what c.in-Refused.refusal c.kept-in-Refused.result c.in-Refused.ensures (c.kept-in-Refused.ensures ∙ ap (of a.d) c.refused.ensures)
+    unchanged_spi a.d a.raw a.what c.in-Err.refusal c.kept.result c.in-Err.ensures (c.kept.ensures ∙ ap (of a.d) c.refused.ensures)

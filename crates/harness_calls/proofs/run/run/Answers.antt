@@ -2,7 +2,6 @@
 use Rattle.std.proofs.Common.{ℕ, Bool, ap, subst, ◌∙◌}
 use Rattle.model.specs.Calls.{rollback, change, ask}
 use Rattle.harness_numbers.specs.declared.call.Family.TheVariants.{Creation, Read, Switch, Rollback, Change, Asking}
-use Rattle.harness_numbers.specs.Numbers.{numbers}
 use Rattle.harness_calls.specs.Ran.{Performed}
 use Rattle.harness_calls.proofs.Performing.{of, meant, created_performed, read_performed, switch_performed, rollback_performed, changed_performed, asked_performed}
 use Rattle.harness_calls.proofs.run.run.Goals as goal
@@ -24,7 +23,7 @@ returns-in-Switch c =
     let a = c.args in
     let k = c.kept-in-Switch in
     meant a.call a.d a.room.now _ k.result Switch _ c.family_of.ensures c.in-Switch.is
-    (switch_performed a.d a.room.now k.result c.is_switched_on.result (k.ensures ∙ ap (of a.d) (c.done.ensures ∙ ap (λ (n : ℕ). numbers 0 n 0) c.bit.ensures)) c.is_switched_on.ensures)
+    (switch_performed a.d a.room.now k.result c.is_switched_on.result (k.ensures ∙ ap (of a.d) c.done.ensures) c.is_switched_on.ensures)
 
 pub returns-in-Rollback : goal.returns-in-Rollback
 returns-in-Rollback c =

@@ -1,11 +1,7 @@
 -- The rows that were passed over do not count.
-use Rattle.std.proofs.Common.{◌-◌, ◌≡◌, ◌≤◌, drop}
+use Rattle.std.proofs.Common.{◌≡◌, drop}
 use Rattle.registers.specs.Registers.{map, lookup}
 use Rattle.registers.proofs.register.find.Given as goal
 
-abbrev pub invariant-loop-k : goal.invariant-loop-k
-invariant-loop-k l =
-    (l.k ≤ 14) × (lookup l.direction map l.offset l.width ≡ lookup l.direction (drop l.k map) l.offset l.width)
-
-abbrev pub decreases-loop-k : goal.decreases-loop-k
-decreases-loop-k l = 14 - l.k
+abbrev pub invariant-loop-row : goal.invariant-loop-row
+invariant-loop-row l = lookup l.direction map l.offset l.width ≡ lookup l.direction (drop l.row-index map) l.offset l.width

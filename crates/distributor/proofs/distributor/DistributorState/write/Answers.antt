@@ -12,21 +12,21 @@ pub write_register-requires : goal.write_register-requires
 write_register-requires c =
     let a = c.args in
     let same = ap (λ (n : ℕ). write_access (length a.list.now) n a.self.config.distributor_size a.offset a.width) (sym c.size.ensures) in
-    let k = granted (length a.list.now) (table_size a.self.spi_count) a.self.config.distributor_size a.offset a.width _ (same ∙ sym c.in-To.ensures) in
+    let k = granted (length a.list.now) (table_size a.self.spi_count) a.self.config.distributor_size a.offset a.width _ (same ∙ sym c.in-Ok.ensures) in
     (decode_bounded Writing a.self.config.distributor_size a.offset a.width _ k.1, k.0)
 
-pub returns-in-To : goal.returns-in-To
-returns-in-To c =
+pub returns-in-Ok : goal.returns-in-Ok
+returns-in-Ok c =
     let a = c.args in
     let same = ap (λ (n : ℕ). write_access (length a.list.now) n a.self.config.distributor_size a.offset a.width) (sym c.size.ensures) in
-    let done = written_so a.self a.offset a.width a.value a.list.now _ c.write_register.result _ (same ∙ sym c.in-To.ensures) c.write_register.ensures in
+    let done = written_so a.self a.offset a.width a.value a.list.now _ c.write_register.result _ (same ∙ sym c.in-Ok.ensures) c.write_register.ensures in
     record { state = done.0; answer = done.1 }
 
-pub returns-in-Refused : goal.returns-in-Refused
-returns-in-Refused c =
+pub returns-in-Err : goal.returns-in-Err
+returns-in-Err c =
     let a = c.args in
     let same = ap (λ (n : ℕ). write_access (length a.list.now) n a.self.config.distributor_size a.offset a.width) (sym c.size.ensures) in
     let done =
-    written_so a.self a.offset a.width a.value a.list.now _ c.unchanged.result _ (same ∙ sym c.in-Refused.ensures)
-    (refused_writes a.self a.value a.list.now c.unchanged.result _ c.unchanged.ensures) in
+    written_so a.self a.offset a.width a.value a.list.now _ c.keeping.result _ (same ∙ sym c.in-Err.ensures)
+    (refused_writes a.self a.value a.list.now c.keeping.result _ c.keeping.ensures) in
     record { state = done.0; answer = done.1 }

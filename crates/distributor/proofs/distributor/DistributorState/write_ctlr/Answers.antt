@@ -1,19 +1,13 @@
-use Rattle.std.proofs.Common.{Bool, sym, ap, ◌∙◌}
-use Rattle.controller.specs.Identity.{switch_bit}
-use Rattle.model.specs.Calls.{Distributor}
-use Rattle.distributor.specs.Model.{model_of}
-use Rattle.distributor.proofs.Replying.{still}
+use Rattle.distributor.proofs.Replying.{turned_on, turned_off}
 use Rattle.distributor.proofs.distributor.DistributorState.write_ctlr.Goals as goal
 
 pub returns-then-on : goal.returns-then-on
 returns-then-on c =
     let a = c.args in
-    let on = c.switch_bit-on.ensures in
-    let k = c.list_deliverable-count.ensures in
-    (ap (λ (b : Bool). model_of (record { config = a.self.config; enabled = b; spi_count = a.self.spi_count; slots = a.self.slots })) on ∙ ap (λ (d : Distributor). record { config = d.config; switch = switch_bit a.value; count = d.count; slots = d.slots }) (still a.self), rw (sym on ∙ c.if-on.true, k.0, k.1))
+    turned_on a.self a.value a.list.now c.switch_bit-on.result c.list_deliverable-count.result c.keeping.result c.list_deliverable-count.new.list
+    c.switch_bit-on.ensures c.if-on.true c.list_deliverable-count.ensures c.keeping.ensures
 
-pub returns-else-on : goal.returns-else-on
-returns-else-on c =
+pub returns : goal.returns
+returns c =
     let a = c.args in
-    let on = c.switch_bit-on.ensures in
-    (ap (λ (b : Bool). model_of (record { config = a.self.config; enabled = b; spi_count = a.self.spi_count; slots = a.self.slots })) on ∙ ap (λ (d : Distributor). record { config = d.config; switch = switch_bit a.value; count = d.count; slots = d.slots }) (still a.self), rw (sym on ∙ c.if-on.false))
+    turned_off a.self a.value a.list.now c.switch_bit-on.result c.keeping-2.result c.switch_bit-on.ensures c.if-on.false c.keeping-2.ensures
