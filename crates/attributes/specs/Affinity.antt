@@ -1,5 +1,7 @@
 -- A core's affinity, and its place in MPIDR and IROUTER.
 use Rattle.std.specs.Prelude.{ℕ, ◌+◌, ◌*◌, ◌/◌, ◌%◌, ◌^◌}
+use Rattle.std.specs.Ordering.{nat_cmp, on, then_cmp}
+use Rattle.std.specs.declared.cmp.Ordering.{Ordering}
 use Rattle.attributes.specs.declared.attributes.GicAffinity.{GicAffinity}
 
 abbrev pub affinity : ℕ → ℕ → ℕ → ℕ → GicAffinity
@@ -15,3 +17,7 @@ from_mpidr v = affinity (byte_at 32 v) (byte_at 16 v) (byte_at 8 v) (v % 256)
 
 abbrev pub mpidr_of : GicAffinity → ℕ
 mpidr_of a = a.aff3 * 2 ^ 32 + a.aff2 * 2 ^ 16 + a.aff1 * 2 ^ 8 + a.aff0
+
+-- the order of two affinities: by level 3, then by level 2, by level 1 and by level 0
+abbrev pub by_levels : GicAffinity → GicAffinity → Ordering
+by_levels = then_cmp (on (λ a. a.aff3) nat_cmp) (then_cmp (on (λ a. a.aff2) nat_cmp) (then_cmp (on (λ a. a.aff1) nat_cmp) (on (λ a. a.aff0) nat_cmp)))

@@ -1,8 +1,10 @@
 -- Affinity and MPIDR: packing loses nothing, and unpacking keeps bits 39..32 and 23..0.
 use Rattle.std.specs.Prelude.{ℕ, ◌+◌, ◌*◌, ◌/◌, ◌%◌, ◌^◌, ◌<◌, ◌≡◌}
+use Rattle.std.specs.Cmp.{IsTotalOrder, nat_cmp_total, on_total, then_total}
+use Rattle.std.specs.Ordering.{nat_cmp, ordering_then}
 use Rattle.std.proofs.Common.{arith}
 use Rattle.attributes.specs.declared.attributes.GicAffinity.{GicAffinity}
-use Rattle.attributes.specs.Affinity.{affinity, byte_at, from_mpidr, mpidr_of}
+use Rattle.attributes.specs.Affinity.{affinity, byte_at, from_mpidr, mpidr_of, by_levels}
 
 -- four bytes, as every GicAffinity of the code is
 pub record Bytes (a : GicAffinity) : Type 0 where
@@ -33,3 +35,26 @@ mpidr_from_mpidr v = omega arith
 -- Aff3 is bits 39..32, Aff2 bits 23..16, Aff1 bits 15..8 and Aff0 bits 7..0
 pub mpidr_levels : (a : GicAffinity) → Bytes a → (mpidr_of a / 2 ^ 32 ≡ a.aff3) × (mpidr_of a / 2 ^ 16 % 2 ^ 16 ≡ a.aff2) × (mpidr_of a / 2 ^ 8 % 2 ^ 8 ≡ a.aff1) × (mpidr_of a % 2 ^ 8 ≡ a.aff0)
 mpidr_levels a b = (omega arith, omega arith, omega arith, omega arith)
+
+pub by_levels_total : IsTotalOrder by_levels
+by_levels_total = then_total (on_total (λ a. a.aff3) nat_cmp_total) (then_total (on_total (λ a. a.aff2) nat_cmp_total) (then_total (on_total (λ a. a.aff1) nat_cmp_total) (on_total (λ a. a.aff0) nat_cmp_total)))
+
+-- a level decides before those below it
+decides8 : (x y r s : ℕ) → r < 2 ^ 8 → s < 2 ^ 8 → ordering_then (nat_cmp x y) (nat_cmp r s) ≡ nat_cmp (x * 2 ^ 8 + r) (y * 2 ^ 8 + s)
+decides8 x y r s p q = grind arith
+
+decides16 : (x y r s : ℕ) → r < 2 ^ 16 → s < 2 ^ 16 → ordering_then (nat_cmp x y) (nat_cmp r s) ≡ nat_cmp (x * 2 ^ 16 + r) (y * 2 ^ 16 + s)
+decides16 x y r s p q = grind arith
+
+decides32 : (x y r s : ℕ) → r < 2 ^ 24 → s < 2 ^ 24 → ordering_then (nat_cmp x y) (nat_cmp r s) ≡ nat_cmp (x * 2 ^ 32 + r) (y * 2 ^ 32 + s)
+decides32 x y r s p q = grind arith
+
+-- the order is that of the numbers in MPIDR
+pub by_levels_mpidr : (a b : GicAffinity) → Bytes a → Bytes b → by_levels a b ≡ nat_cmp (mpidr_of a) (mpidr_of b)
+by_levels_mpidr a b p q =
+    let low = decides8 a.aff1 b.aff1 a.aff0 b.aff0 p.byte0 q.byte0 in
+    let middle = decides16 a.aff2 b.aff2 (a.aff1 * 2 ^ 8 + a.aff0) (b.aff1 * 2 ^ 8 + b.aff0) (let r = p.byte1 in let s = p.byte0 in omega arith) (let r = q.byte1 in let s = q.byte0 in omega arith) in
+    let all = decides32 a.aff3 b.aff3 (a.aff2 * 2 ^ 16 + (a.aff1 * 2 ^ 8 + a.aff0)) (b.aff2 * 2 ^ 16 + (b.aff1 * 2 ^ 8 + b.aff0)) (let r = p.byte2 in let s = p.byte1 in let t = p.byte0 in omega arith) (let r = q.byte2 in let s = q.byte1 in let t = q.byte0 in omega arith) in
+    let left : a.aff3 * 2 ^ 32 + (a.aff2 * 2 ^ 16 + (a.aff1 * 2 ^ 8 + a.aff0)) ≡ mpidr_of a = omega arith in
+    let right : b.aff3 * 2 ^ 32 + (b.aff2 * 2 ^ 16 + (b.aff1 * 2 ^ 8 + b.aff0)) ≡ mpidr_of b = omega arith in
+    rw (low, middle, all, left, right)

@@ -1,15 +1,51 @@
 // What an interrupt has besides its identifier: affinity, priority, trigger and state.
 ghost use Rattle.std.specs.Prelude.{◌≡◌};
-ghost use Rattle.attributes.specs.Affinity.{affinity, from_mpidr, mpidr_of};
+ghost use Rattle.std.proofs.Common.{rules};
+ghost use Rattle.std.specs.Cmp.{po};
+ghost use Rattle.std.specs.Cmp.Rules.{comparing};
+ghost use Rattle.std.specs.Ordering.{as_partial_cmp};
+ghost use Rattle.attributes.specs.Affinity.{affinity, from_mpidr, mpidr_of, by_levels};
+ghost use Rattle.attributes.specs.AffinityLaws.{by_levels_total};
 ghost use Rattle.attributes.specs.States.{pending_of, active_of, state_of, state_number, level_of, trigger_of};
 
+use std::cmp::Ordering;
+
 // A core's address in four levels of one byte, in the order in which an image has them.
-#[derive(Clone, Copy, Debug, PartialEq, Eq, PartialOrd, Ord)]
+#[derive(Clone, Copy, Debug, PartialEq, Eq)]
 pub struct GicAffinity {
     aff0: u8,
     aff1: u8,
     aff2: u8,
     aff3: u8,
+}
+
+// Level 3 decides first, as in the Rust and in MPIDR. A derived order would go by the fields as they stand, and so by level 0 first.
+impl Ord for GicAffinity {
+    ghost cmp = { by_levels };
+
+    ghost total = { by_levels_total };
+
+    ghost matches_partial_cmp = { Prim.search (comparing, rules) };
+
+    ghost matches_eq = { Prim.search (comparing, rules) };
+
+    fn cmp(&self, other: &GicAffinity) -> Ordering {
+        self.aff3
+            .cmp(&other.aff3)
+            .then(self.aff2.cmp(&other.aff2))
+            .then(self.aff1.cmp(&other.aff1))
+            .then(self.aff0.cmp(&other.aff0))
+    }
+}
+
+impl PartialOrd for GicAffinity {
+    ghost partial_cmp = { as_partial_cmp by_levels };
+
+    ghost laws = { po by_levels_total (Prim.search (comparing, rules)) };
+
+    fn partial_cmp(&self, other: &GicAffinity) -> Option<Ordering> {
+        Some(self.cmp(other))
+    }
 }
 
 impl GicAffinity {
