@@ -7,7 +7,7 @@ use mathlib.Core.List.{List, [], ◌∷◌}
 use native.Mathlib.Omega.{arith}
 use native.Mathlib.Nat.{mul_comm, div-le_self, div-mul-le_self}
 use borrow.Author.Tests.{leb-true, eqb-true}
-use lib.Dec.{leb, eqb}
+use lib.Dec.{leb, ltb, eqb}
 use Rattle.std.specs.List.{list_all}
 use Rattle.theory.specs.Bools.{both}
 use Rattle.identifiers.specs.declared.error.Refusal.TheVariants.{InvalidAccess, InvalidWidth}
@@ -24,14 +24,11 @@ use Rattle.registers.specs.declared.register.Kind.{Kind}
 use Rattle.registers.specs.declared.register.Row.{Row}
 use Rattle.registers.specs.Registers.{bytes_of, takes, map, widths_for, holds, register_at, lookup}
 use Rattle.registers.specs.MapLaws.{between}
+use Rattle.registers.proofs.Rows.{sized}
 use Rattle.registers.proofs.Widths.{bytes_range}
 use Rattle.decoding.specs.Decoding.{legal, decode}
 use Rattle.decoding.proofs.RefusalLaws.{legal_when}
 use Rattle.decoding.specs.Bounds.{Bounded, Whole}
-
--- a row is at most 0x2000 bytes long
-sized : Row → Bool
-sized r = leb r.end (r.from + 0x2000)
 
 fields_bounded : (b : Bank) (at : ℕ) (w : AccessWidth) → at < 0x2000 → Bounded (Fields b (at * 8 / bits_of b) (bytes_of w * 8 / bits_of b))
 fields_bounded b at w h =
@@ -143,7 +140,7 @@ each_bounded [] ok d o w = tt
 each_bounded (r ∷ rs) ok d o w = (
   (λ h t.
       let n = between r o h in
-      let y = leb-true r.end (r.from + 0x2000) (both (sized r) _ ok).0 in
+      let y = leb-true r.end (r.from + 0x2000) (both (ltb 0 r.every) _ (both (sized r) _ ok).0).1 in
       kind_bounded r.kind (o - r.from) w (omega arith)),
   each_bounded rs (both (sized r) _ ok).1 d o w,
 )

@@ -1,14 +1,19 @@
--- How a row of the register map decides an access or is passed over.
-use Prim.Native.Nat.{ℕ, suc, ◌<◌}
+-- Rows of the register map: a test of one, and how one decides an access or is passed over.
+use Prim.Native.Nat.{ℕ, suc, ◌+◌, ◌<◌}
 use mathlib.Core.Path.{◌≡◌, ap, ◌∙◌}
-use mathlib.Core.Bool.{true, false}
+use mathlib.Core.Bool.{Bool, true, false, ◌&&◌}
 use mathlib.Core.List.{List, ◌∷◌}
+use lib.Dec.{leb, ltb}
 use lib.ListN.{length, get_or, drop}
 use lib.Seq.{drop-cons}
 use Rattle.registers.specs.declared.register.AccessWidth.{AccessWidth}
 use Rattle.registers.specs.declared.register.Direction.{Direction}
 use Rattle.registers.specs.declared.register.Row.{Row}
 use Rattle.registers.specs.Registers.{holds, row_access, lookup}
+
+-- a row has a step, and is at most 0x2000 bytes long
+unfoldable pub sized : Row → Bool
+sized r = ltb 0 r.every && leb r.end (r.from + 0x2000)
 
 module _ (d : Direction) (o : ℕ) (w : AccessWidth) (rs : List Row) (k : ℕ) (r : Row) (h : k < length rs) where
   turn : lookup d (drop k rs) o w ≡ lookup d (get_or rs k r ∷ drop (suc k) rs) o w
