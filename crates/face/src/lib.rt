@@ -4,5 +4,6 @@
 
 pub mod calls;
 pub mod create;
+pub mod face;
 pub mod guest;
 pub mod sweeps;

@@ -1,4 +1,5 @@
-// The functions that C and Rust link. include/dhunglebi.h declares them. Each tells what a call of crate face tells.
+// The functions that C and Rust link. include/dhunglebi.h declares them. Each calls the function of its name in crate face, and promises what
+// that promises.
 #![tactic(auto)]
 
 ghost use Rattle.std.specs.Prelude.{◌≡◌, not, [], eqb};
@@ -6,11 +7,7 @@ ghost use Rattle.attributes.specs.Affinity.{from_mpidr};
 ghost use Rattle.image_model.specs.Face.{read, write, host, seen};
 ghost use Rattle.image_model.specs.Create.{create_seen};
 
-use attributes::attributes::GicAffinity;
 use changes::change::Change;
-use face::calls::change_image;
-use face::create::create_image;
-use face::guest::{read_image, write_image};
 use operation::operation::Operation;
 
 #[unsafe(no_mangle)]
@@ -25,14 +22,14 @@ pub extern "C" fn dhunglebi_create(
 ) -> u32
     ensures { record { told = record { number = result; out = out.new }; image = image.new; list = [] } ≡ create_seen count ownership flags lpi_limit frame_size image.old }
 {
-    create_image(image, count, ownership, flags, lpi_limit, frame_size).tell(out)
+    face::face::dhunglebi_create(image, count, ownership, flags, lpi_limit, frame_size, out)
 }
 
 #[unsafe(no_mangle)]
 pub extern "C" fn dhunglebi_read(image: &[u8], offset: u64, width: u32, out: &mut u64) -> u32
     ensures { record { number = result; out = out.new } ≡ (seen (read offset width) image.now []).told }
 {
-    read_image(image, offset, width).tell(out)
+    face::face::dhunglebi_read(image, offset, width, out)
 }
 
 #[unsafe(no_mangle)]
@@ -46,14 +43,14 @@ pub extern "C" fn dhunglebi_write(
 ) -> u32
     ensures { record { told = record { number = result; out = out.new }; image = image.new; list = list.new } ≡ seen (write offset width value) image.old list.old }
 {
-    write_image(image, list, offset, width, value).tell(out)
+    face::face::dhunglebi_write(image, list, offset, width, value, out)
 }
 
 #[unsafe(no_mangle)]
 pub extern "C" fn dhunglebi_claim_software(image: &mut [u8], intid: u32, out: &mut u64) -> u32
     ensures { record { told = record { number = result; out = out.new }; image = image.new; list = [] } ≡ seen (host Change.Claim intid) image.old [] }
 {
-    change_image(image, intid, Change::Claim).tell(out)
+    face::face::dhunglebi_claim_software(image, intid, out)
 }
 
 #[unsafe(no_mangle)]
@@ -65,15 +62,14 @@ pub extern "C" fn dhunglebi_claim_physical(
 ) -> u32
     ensures { record { told = record { number = result; out = out.new }; image = image.new; list = [] } ≡ seen (host (Change.ClaimTo (from_mpidr affinity)) intid) image.old [] }
 {
-    let route = GicAffinity::from_mpidr(affinity);
-    change_image(image, intid, Change::ClaimTo(route)).tell(out)
+    face::face::dhunglebi_claim_physical(image, intid, affinity, out)
 }
 
 #[unsafe(no_mangle)]
 pub extern "C" fn dhunglebi_release(image: &mut [u8], intid: u32, out: &mut u64) -> u32
     ensures { record { told = record { number = result; out = out.new }; image = image.new; list = [] } ≡ seen (host Change.Release intid) image.old [] }
 {
-    change_image(image, intid, Change::Release).tell(out)
+    face::face::dhunglebi_release(image, intid, out)
 }
 
 #[unsafe(no_mangle)]
@@ -85,13 +81,12 @@ pub extern "C" fn dhunglebi_set_level(
 ) -> u32
     ensures { record { told = record { number = result; out = out.new }; image = image.new; list = [] } ≡ seen (host (Change.Operate (Operation.SetLevel (not (eqb level 0)))) intid) image.old [] }
 {
-    let operation = Operation::SetLevel(level != 0);
-    change_image(image, intid, Change::Operate(operation)).tell(out)
+    face::face::dhunglebi_set_level(image, intid, level, out)
 }
 
 #[unsafe(no_mangle)]
 pub extern "C" fn dhunglebi_pulse(image: &mut [u8], intid: u32, out: &mut u64) -> u32
     ensures { record { told = record { number = result; out = out.new }; image = image.new; list = [] } ≡ seen (host (Change.Operate Operation.Pulse) intid) image.old [] }
 {
-    change_image(image, intid, Change::Operate(Operation::Pulse)).tell(out)
+    face::face::dhunglebi_pulse(image, intid, out)
 }

@@ -6,9 +6,10 @@ ghost use Rattle.harness_face.specs.declared.beside.TheConstants.{NUMBERS};
 use crate::apart;
 use crate::apart::{Apart, LIST, Part};
 use changes::change::Change;
-use face::calls::change_image;
-use face::create::create_image;
-use face::guest::{read_image, write_image};
+use face::face::{
+    dhunglebi_claim_physical, dhunglebi_claim_software, dhunglebi_create, dhunglebi_pulse,
+    dhunglebi_read, dhunglebi_release, dhunglebi_set_level, dhunglebi_write,
+};
 use harness_numbers::answer::Answer;
 use harness_numbers::call::{Call, Family};
 use harness_numbers::guest::PLACES;
@@ -30,17 +31,6 @@ const UNTOUCHED: u8 = 0xff;
 
 // What `out` has before a call. Every call writes it.
 const UNWRITTEN: u64 = 0x5a5a_5a5a_5a5a_5a5a;
-
-// Whether the face has this change.
-fn of_face(change: Change) -> bool {
-    matches!(
-        change,
-        Change::Claim
-            | Change::ClaimTo(_)
-            | Change::Release
-            | Change::Operate(Operation::SetLevel(_) | Operation::Pulse)
-    )
-}
 
 // The core's state but for the slots, as its image has it.
 #[derive(Clone, Copy, Debug, PartialEq, Eq)]
@@ -135,20 +125,28 @@ pub fn follow(
     }
 }
 
-// Runs a call on an image, and on a list of as many places as it is lent, by the functions that the C face calls. None where the face
-// has no such call.
+// Runs a call on an image, and on a list of as many places as it is lent. None where the face has no such call.
 fn through_face(image: &mut [u8], list: &mut [u8], call: Call, family: Family) -> Option<Told> {
     let Call { a, b, c, d, .. } = call;
     let low_a = low_word(a);
     let low_b = low_word(b);
-    let told = match family {
-        Family::Creation => create_image(image, low_a, low_b % 2, low_b / 2, low_word(d), c),
-        Family::Read => read_image(image, a, low_b),
-        Family::Write => write_image(image, list, a, low_b, c),
-        Family::Change(change) if of_face(change) => change_image(image, low_a, change),
+    let mut out = UNWRITTEN;
+    let number = match family {
+        Family::Creation => {
+            dhunglebi_create(image, low_a, low_b % 2, low_b / 2, low_word(d), c, &mut out)
+        }
+        Family::Read => dhunglebi_read(image, a, low_b, &mut out),
+        Family::Write => dhunglebi_write(image, list, a, low_b, c, &mut out),
+        Family::Change(Change::Claim) => dhunglebi_claim_software(image, low_a, &mut out),
+        Family::Change(Change::ClaimTo(_)) => dhunglebi_claim_physical(image, low_a, b, &mut out),
+        Family::Change(Change::Release) => dhunglebi_release(image, low_a, &mut out),
+        Family::Change(Change::Operate(Operation::SetLevel(_))) => {
+            dhunglebi_set_level(image, low_a, low_b, &mut out)
+        }
+        Family::Change(Change::Operate(Operation::Pulse)) => {
+            dhunglebi_pulse(image, low_a, &mut out)
+        }
         _ => return None,
     };
-    let mut out = UNWRITTEN;
-    let number = told.tell(&mut out);
     Some(Told { number, out })
 }

@@ -1,4 +1,4 @@
-// The calls as numbers, run on an image by what the C face calls, and held against what the core did (docs/ORACLE.md, "The list, replayed").
+// The calls as numbers, run through the C face on an image, and held against what the core did (docs/ORACLE.md, "The list, replayed").
 // No Distributor is in here.
 #![tactic(auto)]
 
