@@ -19,7 +19,7 @@ use image::kept::word_of;
 use slot::slot::Slot;
 
 // The bytes of a call.
-pub(crate) const CALL: usize = 33;
+pub const CALL: usize = 33;
 
 // Runs the calls from a Distributor with no SPIs, and puts what is seen of them into `seen`. Answers how many bytes that takes; those
 // past the end of `seen` are left out.

@@ -1,10 +1,12 @@
 // The board's twelve cases as a list: each call with what the paper says to it. All but the first and the last are from a fresh K.
+use std::io;
+use std::io::Read;
 
 // A fresh K.
 const K: &[u8] =
     b"10 28 1 10000 0 0 0 0 0 0\n15 21 0 0 0 0 0 0 0 1 1 800080\n15 40 0 0 0 0 0 0 0 1 20 800080\n16 41 1 0 0 0 0 0 0 1 21 100800380\n";
 
-pub const LIST: [&[u8]; 35] = [
+const LIST: [&[u8]; 35] = [
     // 988 SPIs are made, 989 are refused.
     b"10 3dc 1 10000 0 0 0 0 0 0\n",
     b"10 3dd 1 10000 0 1 3fc 0 0 0\n",
@@ -49,3 +51,29 @@ pub const LIST: [&[u8]; 35] = [
     b"12 7f8 8 8877665544332211 3dc 0 0 0 0 4 3d8 110000 3d9 220000 3da 330000 3db 440000\n",
     b"11 7f8 8 0 0 0 44332211 0 0 0\n",
 ];
+
+// The list, as something to read. Each read gives one element. None is empty, which would end the list, and `BUFFER` is longer than any, so
+// none is cut.
+#[derive(Drop)]
+pub struct Lines {
+    // The next element.
+    at: usize,
+}
+
+impl Lines {
+    pub fn new() -> Self {
+        Lines { at: 0 }
+    }
+}
+
+impl Read for Lines {
+    fn read(&mut self, buffer: &mut [u8]) -> io::Result<usize> {
+        let Some(lines) = LIST.get(self.at) else {
+            return Ok(0);
+        };
+        self.at += 1;
+        let count = lines.len().min(buffer.len());
+        buffer[..count].copy_from_slice(&lines[..count]);
+        Ok(count)
+    }
+}

@@ -16,19 +16,18 @@ use crate::lexer::Lexer;
 use crate::line::Line;
 use crate::run::Run;
 use crate::stop::{In, Stop};
-use distributor::distributor::DistributorState;
 use harness_calls::create;
 use harness_calls::run::Ran;
 use harness_numbers::guest::{PLACES, UNTOUCHED};
 use std::io;
-use std::io::{BufReader, Read};
+use std::io::Read;
 
-// How many bytes of standard input are read at a time.
+// How many bytes of a list are read at a time.
 const BUFFER: usize = 65536;
 
 fn main(rt: HostRuntime) -> io::Result<()> {
-    let board = board::LIST.concat(rt.alloc())?;
-    match replay(board.as_slice()) {
+    let mut buffer = [0; BUFFER];
+    match replay(&mut board::Lines::new(), &mut buffer) {
         Ok(Counts { calls, faced, .. }) => {
             println!(rt;
                 "the board's twelve: calls compared: {calls}, through the face as well: {faced}"
@@ -36,36 +35,38 @@ fn main(rt: HostRuntime) -> io::Result<()> {
         }
         Err(stop) => return println!(rt; "{}", In("the board's ", stop)),
     }
-    match replay(BufReader::with_capacity(rt.alloc(), BUFFER, rt.stdin())?) {
+    match replay(&mut rt.stdin(), &mut buffer) {
         Ok(counts) => println!(rt; "{counts}\nno difference"),
         Err(stop) => println!(rt; "{}", In("", stop)),
     }
 }
 
-// Runs the calls of a list, line by line.
-fn replay(list: impl Read + Drop) -> Result<Counts, Stop> {
+// Runs the calls of a list, line by line, and holds what is seen of each against its line. The Distributor stays in this one loop. A
+// function for one line would copy it three times more at each call, and clear as many bytes.
+fn replay(list: &mut dyn Read, buffer: &mut [u8; BUFFER]) -> Result<Counts, Stop> {
     let mut d = create::nothing();
     let mut run = Run::new();
     let mut lexer = Lexer::new();
-    for byte in list.bytes() {
-        let byte = byte.map_err(|_| Stop::Unread)?;
-        if lexer.take_in(byte).ok_or(Stop::Bad(run.line_number()))? {
-            d = step(d, &mut run, lexer.words())?;
-            lexer.clear();
+    for _ in 0..u64::MAX {
+        let count = list.read(buffer).map_err(|_| Stop::Unread)?;
+        if count == 0 {
+            break;
+        }
+        for byte in &buffer[..count] {
+            let bad = Stop::Bad(run.line_number());
+            if lexer.take_in(*byte).ok_or(bad)? {
+                let line = Line::of(lexer.words()).ok_or(bad)?;
+                run.take_over(&line)?;
+                let mut places = [UNTOUCHED; PLACES];
+                let Ran { state, answer } = harness_calls::run::run(d, line.call, &mut places);
+                d = state;
+                run.compare(&line, answer, d.is_switched_on(), &places, &d.slots())?;
+                lexer.clear();
+            }
         }
     }
     if lexer.is_within() {
         return Err(Stop::Bad(run.line_number()));
     }
     run.ended()
-}
-
-// Runs the call of a line, and holds what is seen of it against the line.
-fn step(d: DistributorState, run: &mut Run, words: &[u64]) -> Result<DistributorState, Stop> {
-    let line = Line::of(words).ok_or(Stop::Bad(run.line_number()))?;
-    run.take_over(&line)?;
-    let mut list = [UNTOUCHED; PLACES];
-    let Ran { state, answer } = harness_calls::run::run(d, line.call, &mut list);
-    run.compare(&line, answer, state.is_switched_on(), &list, &state.slots())?;
-    Ok(state)
 }

@@ -14,7 +14,7 @@ use image::kept::FRESH;
 use place::place::SPIS;
 use slot::slot::Slot;
 
-#[derive(Drop)]
+#[derive(Clone, Copy, Debug, PartialEq, Eq)]
 pub struct Run {
     // The last creation, and of how many SPIs it made the list's Distributor: None where there is none.
     creation: Call,
